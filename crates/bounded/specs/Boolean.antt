@@ -1,0 +1,51 @@
+-- Tests and what they say: a conjunction taken apart, two tests that say the same, a number below another or not.
+-- The kit's own laws of tests (borrow.Author.Tests) turn a test of numbers into an order of numbers and back; these are what it lacks.
+use Prim.Native.Nat.{ℕ, _<_, _≤_}
+use mathlib.Core.Bool.{Bool, true, false, not, _&&_, _||_}
+use mathlib.Core.Logic.{_⊎_, inl, inr}
+use mathlib.Core.Path.{_≡_, refl, sym, _∙_}
+use native.Mathlib.Decide.{decLt}
+use native.Mathlib.Omega.{arith}
+
+-- One number is below another, or it is not.
+pub lt-or-le : (a b : ℕ) → (a < b) ⊎ (b ≤ a)
+lt-or-le a b = go (decLt a b)
+  where
+    go : Dec (a < b) → (a < b) ⊎ (b ≤ a)
+    go (yes h) = inl h
+    go (no f) = inr (omega arith)
+
+-- A test holds or it does not, and says which.
+pub holds-or-not : (x : Bool) → (x ≡ true) ⊎ (x ≡ false)
+holds-or-not true = inl refl
+holds-or-not false = inr refl
+
+-- True is not false, at any conclusion.
+pub contrary {ℓ} : {A : Type ℓ} {x : Bool} → x ≡ true → x ≡ false → A
+contrary p q = absurd (let z : _≡_ {A = ℕ} 0 1 = cc in omega arith)
+
+-- The two halves of a conjunction that holds.
+pub both : (x y : Bool) → x && y ≡ true → (x ≡ true) × (y ≡ true)
+both true y e = (refl, e)
+both false y e = contrary e refl
+
+-- A conjunction of what holds.
+pub both-hold : (x y : Bool) → x ≡ true → y ≡ true → x && y ≡ true
+both-hold true y p q = q
+both-hold false y p q = p
+
+-- A conjunction that fails although its first half holds.
+pub second-fails : (x y : Bool) → x ≡ true → x && y ≡ false → y ≡ false
+second-fails true y p e = e
+second-fails false y p e = contrary p refl
+
+-- A disjunction that holds has a half that does.
+pub either : (x y : Bool) → x || y ≡ true → (x ≡ true) ⊎ (y ≡ true)
+either true y e = inl refl
+either false y e = inr e
+
+-- Two tests of which each implies the other are equal.
+pub same-test : (x y : Bool) → (x ≡ true → y ≡ true) → (y ≡ true → x ≡ true) → x ≡ y
+same-test true y f g = sym (f refl)
+same-test false true f g = g refl
+same-test false false f g = refl
