@@ -1,0 +1,87 @@
+-- What the checks 1 to 5 say: they pass exactly when the tables' lengths, the space and every row are as they must be.
+use Prim.Native.Nat.{ℕ, _<_, _≤_, _%_}
+use mathlib.Core.Bool.{Bool, true, false, not}
+use mathlib.Core.List.{List, [], _∷_, _++_}
+use mathlib.Core.Path.{_≡_, refl, sym, _∙_, ap}
+use native.Mathlib.Omega.{arith}
+use borrow.Author.Tests.{ltb-false, le-ltb, lt-ltb, eqb-true, eq-eqb, not-true, not-false}
+use lib.IntN.{ℤ}
+use lib.ListN.{length}
+use Rattle.answer.specs.declared.Answer.{Answer}
+use Rattle.answer.specs.Answer.{refusedAt, doneWith, badRow as badRowNumber}
+use Rattle.bounded.specs.Causes.{NoneHolds, AllRefuse, firstCause, follows, follows-more, passed, refused-stands}
+use Rattle.bounded.specs.First.{firstIn, holdsBelow, none-holds, none-found}
+use Rattle.requests.specs.Limits.{greatestRows, greatestSpace}
+use Rattle.requests.specs.Table.{rows, request, good, badRow}
+use Rattle.requests.specs.Checks.{shapeCauses, rowCauses, tableCauses, shapeOf, checkOf}
+
+-- What lets a table, a space and a room pass the checks 1 to 4.
+pub record Shaped (t : List ℤ) (space room : ℕ) : Type 0 where
+  pub whole : length t % 4 ≡ 0
+  pub few : rows t ≤ greatestRows
+  pub roomy : rows t ≤ room
+  pub allowed : space ≤ greatestSpace
+
+-- What lets them pass the checks 1 to 5: the rows are good too.
+pub record Checked (g : ℕ) (t : List ℤ) (space room : ℕ) : Type 0 where
+  pub shaped : Shaped t space room
+  pub goodRows : (r : ℕ) → r < rows t → good g (request t r) ≡ true
+
+-- An answer's number, as the laws of causes ask for it.
+abbrev pub numberOf : Answer → ℕ
+numberOf x = x .number
+
+module _ (t : List ℤ) (space room : ℕ) where
+  shape-refuses : AllRefuse numberOf (shapeCauses t space room)
+  shape-refuses = (omega arith, (omega arith, (omega arith, (omega arith, tt))))
+
+  shaped-of : NoneHolds (shapeCauses t space room) → Shaped t space room
+  shaped-of n = record {
+    whole = eqb-true _ _ (not-false _ (n .0));
+    few = ltb-false _ _ (n .1 .0);
+    roomy = ltb-false _ _ (n .1 .1 .0);
+    allowed = ltb-false _ _ (n .1 .1 .1 .0);
+  }
+
+  none-of : Shaped t space room → NoneHolds (shapeCauses t space room)
+  none-of s = (ap not (eq-eqb _ _ (s .whole)), (le-ltb _ _ (s .few), (le-ltb _ _ (s .roomy), (le-ltb _ _ (s .allowed), tt))))
+
+  -- The checks 1 to 4 pass: lengths and space are as they must be.
+  pub shape-passed : shapeOf t space room .number ≡ 0 → Shaped t space room
+  unfolding shapeOf
+  shape-passed e = shaped-of (passed numberOf (shapeCauses t space room) (doneWith 0) shape-refuses e .0)
+
+  module _ (g : ℕ) where
+    -- A refusal of the checks 1 to 4 is the refusal of all five.
+    pub shape-refused : (shapeOf t space room .number ≡ 0 → ⊥) → shapeOf t space room ≡ checkOf g t space room
+    unfolding shapeOf checkOf
+    shape-refused h = refused-stands numberOf (shapeCauses t space room) (rowCauses g t) (doneWith 0) (doneWith 0) refl h
+
+    -- Past them, the lowest bad row is the refusal,
+    pub row-refused : Shaped t space room → firstIn (badRow g t) 0 (rows t) < rows t → refusedAt badRowNumber (firstIn (badRow g t) 0 (rows t)) ≡ checkOf g t space room
+    unfolding checkOf holdsBelow
+    row-refused s l = sym (follows-more (shapeCauses t space room) (rowCauses g t) (doneWith 0) (none-of s) ∙ rw (lt-ltb _ _ l, firstCause))
+
+    -- and where there is none, all five pass.
+    pub row-passed : Shaped t space room → rows t ≤ firstIn (badRow g t) 0 (rows t) → doneWith 0 ≡ checkOf g t space room
+    unfolding checkOf holdsBelow
+    row-passed s l = sym (follows-more (shapeCauses t space room) (rowCauses g t) (doneWith 0) (none-of s) ∙ rw (le-ltb _ _ l, firstCause))
+
+    table-refuses : AllRefuse numberOf (tableCauses g t space room)
+    table-refuses = (omega arith, (omega arith, (omega arith, (omega arith, (omega arith, tt)))))
+
+    -- The checks 1 to 5 pass exactly when lengths, space and rows are as they must be: one way,
+    pub checked : checkOf g t space room .number ≡ 0 → Checked g t space room
+    unfolding checkOf
+    checked e =
+        let n = passed numberOf (tableCauses g t space room) (doneWith 0) table-refuses e .0 in
+        record {
+          shaped = shaped-of (n .0, (n .1 .0, (n .1 .1 .0, (n .1 .1 .1 .0, tt))));
+          goodRows = λ r l. not-false _ (none-holds (badRow g t) (rows t) (n .1 .1 .1 .1 .0) r l);
+        }
+
+    -- and the other: then no cause holds.
+    pub none-refuses : Checked g t space room → NoneHolds (tableCauses g t space room)
+    none-refuses c =
+        let n = none-of (c .shaped) in
+        (n .0, (n .1 .0, (n .1 .1 .0, (n .1 .1 .1 .0, (none-found (badRow g t) (rows t) (λ r l. ap not (c .goodRows r l)), tt)))))

@@ -1,0 +1,5 @@
+pub mod Limits
+pub mod Table
+pub mod Buffers
+pub mod Checks
+pub mod CheckLaws

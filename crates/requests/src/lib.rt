@@ -1,0 +1,199 @@
+// The request table (document 01, "Requests and the greedy rule"): its rows, which rows are good, and when two rows collide; and the checks
+// 1 to 5, with which every planner and the inspector begin.
+ghost use mathlib.Core.Path.{_≡_};
+ghost use Prim.Native.Nat.{ℕ, _+_, _<_};
+ghost use lib.Dec.{ltb};
+ghost use lib.ListN.{length};
+ghost use Rattle.bounded.specs.First.{firstIn};
+ghost use Rattle.words.specs.Words.{wordAt};
+ghost use Rattle.requests.specs.Table.{rows as rowsOf, word as wordOf, request, onGrid, good, badRow};
+ghost use Rattle.requests.specs.Buffers.{occupied, buffer, liveTogether, endsAfter, collides};
+ghost use Rattle.requests.specs.Checks.{checkOf, shapeOf};
+
+use answer::Answer;
+use units::Moment;
+use units::Offset;
+use units::Row;
+
+// The grid: rounding, fixed offsets and proposed offsets go by it.
+pub const GRID: u32 = 16;
+// At most this many rows.
+pub const GREATEST_ROWS: usize = 256;
+// The greatest size, fixed offset and space.
+pub const GREATEST_SPACE: u32 = 16777216;
+// The last moment that a row may name.
+pub const LAST_MOMENT: u32 = 65535;
+
+// One row of the table. The offset of a row that is not fixed says nothing.
+pub struct Request {
+    pub size: u32,
+    pub first: Moment,
+    pub last: Moment,
+    pub fixed: bool,
+    pub offset: Offset,
+}
+
+// A row at an offset: document 01's span, with the row's life.
+pub struct Buffer {
+    pub first: Moment,
+    pub last: Moment,
+    pub offset: Offset,
+    pub length: u64,
+}
+
+// How many whole rows the table has.
+pub fn rows(table: &[i32]) -> usize
+    ensures { λ r. ⌜ r ≡ rowsOf (now (table .entry)) ⌝ }
+{
+    table.len() / 4
+}
+
+// Where the word of a column stands. A row past the table gives a place past it too, where every word reads as 0.
+fn place_of(table: &[i32], row: Row, column: usize) -> usize
+    requires { ⌜ column < 4 ⌝ }
+    ensures { λ r. ⌜ wordAt (now (table .entry)) r ≡ wordOf (now (table .entry)) (row .0) column ⌝ }
+{
+    if row.0 < table.len() {
+        return row.0 * 4 + column;
+    }
+    table.len()
+}
+
+// The row of the table; past its end, a row of zeros.
+pub fn request_at(table: &[i32], row: Row) -> Request
+    ensures { λ r. ⌜ r ≡ request (now (table .entry)) (row .0) ⌝ }
+{
+    let size = words::natural(table, place_of(table, row, 0));
+    let first = words::natural(table, place_of(table, row, 1));
+    let last = words::natural(table, place_of(table, row, 2));
+    let at = place_of(table, row, 3);
+    let fixed = !words::is_minus_one(table, at);
+    let offset = words::natural(table, at);
+    Request {
+        size,
+        first: Moment(first),
+        last: Moment(last),
+        fixed,
+        offset: Offset(offset as u64),
+    }
+}
+
+// The occupied size: the size rounded up to a multiple of the grid. No number is a multiple of a grid of 0 but 0.
+pub fn occupied_size(grid: u32, size: u32) -> u64
+    ensures { λ r. ⌜ r ≡ occupied grid size ⌝ }
+{
+    if grid == 0 {
+        return 0;
+    }
+    (size as u64 + (grid as u64 - 1)) / grid as u64 * grid as u64
+}
+
+// Whether the offset is a multiple of the grid.
+pub fn on_grid(grid: u32, offset: Offset) -> bool
+    ensures { λ r. ⌜ r ≡ onGrid grid (offset .0) ⌝ }
+{
+    if grid == 0 {
+        return offset.0 == 0;
+    }
+    offset.0 % grid as u64 == 0
+}
+
+// A good row: size, life and offset are in their ranges.
+pub fn is_good(grid: u32, request: Request) -> bool
+    ensures { λ r. ⌜ r ≡ good grid request ⌝ }
+{
+    let size = request.size <= GREATEST_SPACE;
+    let life = (request.first.0 <= request.last.0) & (request.last.0 <= LAST_MOMENT);
+    let placed = on_grid(grid, request.offset) & (request.offset.0 <= GREATEST_SPACE as u64);
+    size & (life & (!request.fixed | placed))
+}
+
+// The lowest row that is not good, else the number of rows.
+pub fn lowest_bad_row(grid: u32, table: &[i32]) -> Row
+    ensures { λ r. ⌜ r .0 ≡ firstIn (badRow grid (now (table .entry))) 0 (rowsOf (now (table .entry))) ⌝ }
+{
+    let n = table.len() / 4;
+    let mut i = 0;
+    while i < n {
+        if !is_good(grid, request_at(table, Row(i))) {
+            return Row(i);
+        }
+        i += 1;
+    }
+    Row(i)
+}
+
+// The row's buffer at an offset.
+pub fn buffer_at(grid: u32, request: Request, offset: Offset) -> Buffer
+    ensures { λ r. ⌜ r ≡ buffer grid request offset ⌝ }
+{
+    let length = occupied_size(grid, request.size);
+    let first = request.first;
+    let last = request.last;
+    Buffer {
+        first,
+        last,
+        offset,
+        length,
+    }
+}
+
+// Both ends of a life count.
+pub fn live_together(a: Buffer, b: Buffer) -> bool
+    ensures { λ r. ⌜ r ≡ liveTogether a b ⌝ }
+{
+    (a.first.0 <= b.last.0) & (b.first.0 <= a.last.0)
+}
+
+// Whether a ends after b starts. It subtracts where there is something to subtract, so that no end is ever worked out and none can overflow.
+fn ends_after(a: Buffer, b: Buffer) -> bool
+    ensures { λ r. ⌜ r ≡ endsAfter a b ⌝ }
+{
+    if b.offset.0 < a.offset.0 {
+        return true;
+    }
+    b.offset.0 - a.offset.0 < a.length
+}
+
+// Two buffers collide: both are nonempty, they live together and share a byte.
+pub fn collide(a: Buffer, b: Buffer) -> bool
+    ensures { λ r. ⌜ r ≡ collides a b ⌝ }
+{
+    let nonempty = (0 < a.length) & (0 < b.length);
+    nonempty & (live_together(a, b) & (ends_after(a, b) & ends_after(b, a)))
+}
+
+// The checks 1 to 4: the tables' lengths and the space.
+fn check_shape(table: &[i32], space: u32, room: usize) -> Answer
+    ensures { λ r. ⌜ r ≡ shapeOf (now (table .entry)) space room ⌝ }
+{
+    if table.len() % 4 != 0 {
+        return Answer::refused(Answer::NOT_WHOLE_ROWS);
+    }
+    let n = table.len() / 4;
+    if GREATEST_ROWS < n {
+        return Answer::refused(Answer::TOO_MANY);
+    }
+    if room < n {
+        return Answer::refused(Answer::TABLE_TOO_SHORT);
+    }
+    if GREATEST_SPACE < space {
+        return Answer::refused(Answer::SPACE_TOO_LARGE);
+    }
+    Answer::done(0)
+}
+
+// The checks 1 to 5, in their order, of a request table, a space and an answer or proposal table with this room: a refusal, or done with no need.
+pub fn check(grid: u32, table: &[i32], space: u32, room: usize) -> Answer
+    ensures { λ r. ⌜ r ≡ checkOf grid (now (table .entry)) space room ⌝ }
+{
+    let shape = check_shape(table, space, room);
+    if shape.number != Answer::DONE {
+        return shape;
+    }
+    let bad = lowest_bad_row(grid, table);
+    if bad.0 < table.len() / 4 {
+        return Answer::refused_at(Answer::BAD_ROW, bad.0 as u32);
+    }
+    Answer::done(0)
+}
