@@ -3,3 +3,7 @@ pub mod Table
 pub mod Buffers
 pub mod Checks
 pub mod CheckLaws
+pub mod GoodRows
+pub mod Rounding
+pub mod Colliding
+pub mod Needs
