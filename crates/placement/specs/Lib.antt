@@ -1,0 +1,5 @@
+pub mod Placing
+pub mod Greedy
+pub mod Walk
+pub mod LowestFree
+pub mod WalkReachesLowest
