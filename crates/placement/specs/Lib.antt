@@ -3,3 +3,4 @@ pub mod Greedy
 pub mod Walk
 pub mod LowestFree
 pub mod WalkReachesLowest
+pub mod GreedyOrder
