@@ -4,3 +4,5 @@ pub mod Walk
 pub mod LowestFree
 pub mod WalkReachesLowest
 pub mod GreedyOrder
+pub mod PlanByPosition
+pub mod NoCollision

@@ -1,0 +1,158 @@
+-- Law: in the greedy plan each row keeps the offset that it took at its place: a fixed row its own, any other the lowest at which it collides with no row
+-- of a lower place; those have their offsets of the plan then already.
+use Prim.Native.Nat.{ℕ, zero, suc, _<_, _≤_}
+use mathlib.Core.Bool.{Bool, true, false, _||_}
+use mathlib.Core.List.{List}
+use mathlib.Core.Logic.{_⊎_, inl, inr, ⊎-elim}
+use mathlib.Core.Path.{_≡_, refl, sym, _∙_, ap, subst}
+use native.Mathlib.Omega.{arith}
+use borrow.Author.Tests.{eqb-true, eqb-false, eq-eqb, ne-eqb, lt-ltb, le-ltb, ltb-true}
+use lib.Dec.{ltb, eqb}
+use lib.IntN.{ℤ}
+use lib.ListN.{length}
+use Rattle.bounded.specs.Boolean.{lt-or-le}
+use Rattle.requests.specs.Buffers.{bufferAt}
+use Rattle.requests.specs.Colliding.{Colliding}
+use Rattle.requests.specs.Table.{rows, fixed, fixedOffset}
+use Rattle.placement.specs.Placing.{Placing, put, lowest, offsetFor, placing, place}
+use Rattle.placement.specs.Greedy.{fixedFirst, greedyOrder, greedyPlan}
+use Rattle.placement.specs.GreedyOrder.{position, rowAt, whole-length, position-listed, listed-position}
+use Rattle.placement.specs.LowestFree.{LowestFree, Blocker, lowest-free}
+
+-- The offset that was put is found there,
+pub put-there : (s : Placing) (r o b : ℕ) → b ≡ r → put s r o .offset b ≡ o
+unfolding put
+put-there s r o b e = rw (eq-eqb b r e, put)
+
+-- and every other stays.
+pub put-elsewhere : (s : Placing) (r o b : ℕ) → (b ≡ r → ⊥) → put s r o .offset b ≡ s .offset b
+unfolding put
+put-elsewhere s r o b d = rw (ne-eqb b r d, put)
+
+-- So with what is placed.
+pub placed-there : (s : Placing) (r o b : ℕ) → b ≡ r → put s r o .placed b ≡ true
+unfolding put
+placed-there s r o b e = rw (eq-eqb b r e)
+
+-- Every other row is placed or not as before.
+pub placed-elsewhere : (s : Placing) (r o b : ℕ) → (b ≡ r → ⊥) → put s r o .placed b ≡ s .placed b
+unfolding put
+placed-elsewhere s r o b d = rw (ne-eqb b r d)
+
+-- Two numbers are the same or not.
+same-or-not : (a b : ℕ) → (a ≡ b) ⊎ (a ≡ b → ⊥)
+same-or-not a b = go (eqb a b) refl
+  where
+    go : (x : Bool) → eqb a b ≡ x → (a ≡ b) ⊎ (a ≡ b → ⊥)
+    go true e = inl (eqb-true a b e)
+    go false e = inr (eqb-false a b e)
+
+module _ (g : ℕ) (t : List ℤ) where
+  -- What is placed once the rows of the first k places are.
+  abbrev pub stage : ℕ → Placing
+  stage k = placing g t (fixedFirst t (greedyOrder g t)) k
+
+  -- One place more.
+  pub stage-more : (k : ℕ) → stage (suc k) ≡ put (stage k) (rowAt g t k) (offsetFor g t (stage k) (rowAt g t k))
+  unfolding placing
+  stage-more k = refl
+
+  not-here : (r k : ℕ) → r < rows t → (r ≡ rowAt g t k → ⊥) → position g t r ≡ k → ⊥
+  not-here r k l d e = d (sym (position-listed g t r l .1) ∙ ap (rowAt g t) e)
+
+  -- A row is placed once its place has come.
+  pub placed-from : (r : ℕ) → r < rows t → (k : ℕ) → k ≤ rows t → stage k .placed r ≡ ltb (position g t r) k
+  unfolding placing
+  placed-from r l zero h = sym (le-ltb (position g t r) 0 (omega arith))
+  placed-from r l (suc k) h = go (same-or-not r (rowAt g t k)) (placed-from r l k (omega arith))
+    where
+      go : (r ≡ rowAt g t k) ⊎ (r ≡ rowAt g t k → ⊥) → stage k .placed r ≡ ltb (position g t r) k → stage (suc k) .placed r ≡ ltb (position g t r) (suc k)
+      go (inl e) i =
+          placed-there (stage k) (rowAt g t k) _ r e
+          ∙ sym (lt-ltb (position g t r) (suc k) (let q = ap (position g t) e ∙ listed-position g t k (omega arith) .1 in omega arith))
+      go (inr d) i =
+          placed-elsewhere (stage k) (rowAt g t k) _ r d ∙ i ∙ same (lt-or-le (position g t r) k)
+        where
+          same : (position g t r < k) ⊎ (k ≤ position g t r) → ltb (position g t r) k ≡ ltb (position g t r) (suc k)
+          same (inl x) = lt-ltb (position g t r) k x ∙ sym (lt-ltb (position g t r) (suc k) (omega arith))
+          same (inr x) =
+              le-ltb (position g t r) k x
+              ∙ sym (le-ltb (position g t r) (suc k) (⊎-elim (λ y. y) (λ y. absurd (not-here r k l d (omega arith))) (lt-or-le k (position g t r))))
+
+  -- A placed row keeps the offset that it took.
+  pub offset-kept : (r : ℕ) → r < rows t → (k : ℕ) → k ≤ rows t → position g t r < k → stage k .offset r ≡ offsetFor g t (stage (position g t r)) r
+  unfolding placing
+  offset-kept r l zero h p = absurd (omega arith)
+  offset-kept r l (suc k) h p = go (same-or-not r (rowAt g t k)) (offset-kept r l k (omega arith))
+    where
+      go : (r ≡ rowAt g t k) ⊎ (r ≡ rowAt g t k → ⊥) → (position g t r < k → stage k .offset r ≡ offsetFor g t (stage (position g t r)) r)
+          → stage (suc k) .offset r ≡ offsetFor g t (stage (position g t r)) r
+      go (inl e) rec =
+          let q : k ≡ position g t r = sym (ap (position g t) e ∙ listed-position g t k (omega arith) .1) in
+          put-there (stage k) (rowAt g t k) _ r e
+          ∙ ap (offsetFor g t (stage k)) (sym e)
+          ∙ ap (λ (i : ℕ). offsetFor g t (stage i) r) q
+      go (inr d) rec =
+          put-elsewhere (stage k) (rowAt g t k) _ r d
+          ∙ rec (⊎-elim (λ x. x) (λ x. absurd (not-here r k l d (omega arith))) (lt-or-le (position g t r) k))
+
+  -- The greedy plan is the stage at which every row is placed.
+  pub plan-is-stage : (r : ℕ) → greedyPlan g t r ≡ stage (rows t) .offset r
+  unfolding greedyPlan place
+  plan-is-stage r = ap (λ (k : ℕ). stage k .offset r) (whole-length g t)
+
+  -- Each row has the offset that it took at its place.
+  pub plan-takes : (r : ℕ) → r < rows t → greedyPlan g t r ≡ offsetFor g t (stage (position g t r)) r
+  plan-takes r l = plan-is-stage r ∙ offset-kept r l (rows t) (omega arith) (position-listed g t r l .0)
+
+  -- A row of a lower place has its offset of the plan by then.
+  pub stage-is-plan : (r : ℕ) → r < rows t → (k : ℕ) → k ≤ rows t → position g t r < k → stage k .offset r ≡ greedyPlan g t r
+  stage-is-plan r l k h p = offset-kept r l k h p ∙ sym (plan-takes r l)
+
+  -- Document 01: "Fixed rows take their offsets", empty ones too.
+  pub fixed-rows-stay : (r : ℕ) → r < rows t → fixed t r ≡ true → greedyPlan g t r ≡ fixedOffset t r
+  unfolding offsetFor
+  fixed-rows-stay r l e = plan-takes r l ∙ rw (e, offsetFor)
+
+  -- A row of a lower place that collides, at its offset of the plan, with row r at offset o.
+  pub record EarlierBlocker (r o : ℕ) : Type 0 where
+    pub row : ℕ
+    pub within : row < rows t
+    pub earlier : position g t row < position g t r
+    pub collides : Colliding (bufferAt g t r o) (bufferAt g t row (greedyPlan g t row))
+
+  -- "Each of these takes the lowest offset, 0 or above, at which it collides with no row already placed": no row of a lower place collides with it,
+  -- and at every lower offset some would.
+  pub record TakesLowest (r : ℕ) : Type 0 where
+    pub clear : (b : ℕ) → b < rows t → position g t b < position g t r → Colliding (bufferAt g t r (greedyPlan g t r)) (bufferAt g t b (greedyPlan g t b)) → ⊥
+    pub blocked : (q : ℕ) → q < greedyPlan g t r → EarlierBlocker r q
+
+  -- So it is in the greedy plan, for every row that is not fixed.
+  pub rest-takes-lowest : (r : ℕ) → r < rows t → fixed t r ≡ false → TakesLowest r
+  unfolding offsetFor
+  rest-takes-lowest r l e = record {
+    clear = λ b m p c. free .clear b m (come b m p) (subst (λ (o : ℕ). Colliding (bufferAt g t r (greedyPlan g t r)) (bufferAt g t b o)) (sym (stage-is-plan b m _ within p)) c);
+    blocked = λ q h. earlier q (free .blocked q h);
+  }
+    where
+      within : position g t r ≤ rows t
+      within = omega (arith, position-listed g t r l .0)
+
+      took : greedyPlan g t r ≡ lowest g t (stage (position g t r)) r
+      took = plan-takes r l ∙ rw (e, offsetFor)
+
+      free : LowestFree g t (stage (position g t r)) r (greedyPlan g t r)
+      free = rw took (lowest-free g t (stage (position g t r)) r)
+
+      come : (b : ℕ) → b < rows t → position g t b < position g t r → stage (position g t r) .placed b ≡ true
+      come b m p = placed-from b m (position g t r) within ∙ lt-ltb _ _ p
+
+      earlier : (q : ℕ) → Blocker g t (stage (position g t r)) r q → EarlierBlocker r q
+      earlier q x =
+          let p : position g t (x .row) < position g t r = ltb-true _ _ (sym (placed-from (x .row) (x .within) (position g t r) within) ∙ x .placed) in
+          record {
+            row = x .row;
+            within = x .within;
+            earlier = p;
+            collides = subst (λ (o : ℕ). Colliding (bufferAt g t r q) (bufferAt g t (x .row) o)) (stage-is-plan (x .row) (x .within) _ within p) (x .collides);
+          }
