@@ -6,3 +6,4 @@ pub mod WalkReachesLowest
 pub mod GreedyOrder
 pub mod PlanByPosition
 pub mod NoCollision
+pub mod EmptyRows

@@ -40,7 +40,7 @@ unfolding put
 placed-elsewhere s r o b d = rw (ne-eqb b r d)
 
 -- Two numbers are the same or not.
-same-or-not : (a b : ℕ) → (a ≡ b) ⊎ (a ≡ b → ⊥)
+pub same-or-not : (a b : ℕ) → (a ≡ b) ⊎ (a ≡ b → ⊥)
 same-or-not a b = go (eqb a b) refl
   where
     go : (x : Bool) → eqb a b ≡ x → (a ≡ b) ⊎ (a ≡ b → ⊥)
