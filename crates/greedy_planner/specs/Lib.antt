@@ -1,0 +1,4 @@
+pub mod Plan
+pub mod Positions
+pub mod Starts
+pub mod Arrays

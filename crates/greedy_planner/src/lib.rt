@@ -1,0 +1,3 @@
+// The greedy planner: document 01's rule for where each tensor sits.
+mod order;
+mod place;
