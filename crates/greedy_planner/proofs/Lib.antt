@@ -1,3 +1,6 @@
 pub mod Distance
 pub mod Positions
 pub mod Ordering
+pub mod Insertion
+pub mod Shifting
+pub mod Filling

@@ -13,7 +13,8 @@ use lib.Signed.{_≤ℤ_, leZ, leZ-yes}
 use Rattle.bounded.specs.Boolean.{both, both-hold, either}
 use Rattle.words.specs.Words.{natural, isMinusOne}
 use Rattle.requests.specs.Limits.{greatestSpace, lastMoment}
-use Rattle.requests.specs.Table.{word, request, good, goodOffset}
+use Rattle.requests.specs.Table.{word, request, onGrid, goodSize, goodLife, goodOffset, good}
+use Rattle.requests.specs.declared.Request.{Request}
 
 -- A natural multiple of the grid, up to the greatest offset.
 pub record Multiple (g : ℕ) (z : ℤ) : Type 0 where
@@ -111,3 +112,16 @@ module _ (g : ℕ) (t : List ℤ) (r : ℕ) where
           → not (not (isMinusOne (word t r 3))) || (eqb (natural (word t r 3) % g) 0 && leb (natural (word t r 3)) greatestSpace) ≡ true
       placed (inl q) = rw q
       placed (inr m) = rw (m .is) (both-hold _ _ (eq-eqb (m .times * g % g) 0 (mul-mod-left (m .times) g)) (le-leb _ _ (m .small)))
+
+-- A good row's size is within the limit,
+pub good-size : (g : ℕ) (x : Request) → good g x ≡ true → x .size ≤ greatestSpace
+unfolding good
+good-size g x e = leb-true _ _ (both (goodSize x) _ e .0)
+
+-- and so is the offset of one that is fixed.
+pub good-offset : (g : ℕ) (x : Request) → good g x ≡ true → x .fixed ≡ true → x .offset .0 ≤ greatestSpace
+unfolding good
+good-offset g x e f =
+    let a = both (goodLife x) (goodOffset g x) (both (goodSize x) _ e .1) .1 in
+    let b = rw f at a in
+    leb-true _ _ (both (onGrid g (x .offset .0)) _ b .1)

@@ -1,7 +1,7 @@
 -- The occupied size is the least multiple of the grid that holds the size.
 use Prim.Native.Nat.{ℕ, zero, suc, _+_, _-_, _*_, _/_, _%_, _<_, _≤_}
 use mathlib.Core.Path.{_≡_, refl}
-use native.Mathlib.Nat.{div-add-mod', mod-lt, mul-mod-left, mul-zero, zero-mul, div-eq-of-lt}
+use native.Mathlib.Nat.{div-add-mod', mod-lt, mul-mod-left, mul-zero, zero-mul, div-eq-of-lt, div-mul-le-self}
 use native.Mathlib.Omega.{arith}
 use Rattle.requests.specs.Buffers.{occupied}
 
@@ -30,3 +30,8 @@ occupied-empty (suc k) = let l : 0 + (suc k - 1) < suc k = omega arith in rw (di
 -- Any other occupies something.
 pub occupied-some : (g size : ℕ) → 0 < g → 0 < size → 0 < occupied g size
 occupied-some g size h l = omega (arith, occupied-holds g size h)
+
+-- It passes the size by no more than the grid, whatever the grid.
+pub occupied-most : (g size : ℕ) → occupied g size ≤ size + g
+unfolding occupied
+occupied-most g size = omega (arith, div-mul-le-self (size + (g - 1)) g)
