@@ -4,3 +4,5 @@ pub mod Ordering
 pub mod Insertion
 pub mod Shifting
 pub mod Filling
+pub mod Needing
+pub mod FixedPairs

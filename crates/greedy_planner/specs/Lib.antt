@@ -2,3 +2,7 @@ pub mod Plan
 pub mod Positions
 pub mod Starts
 pub mod Arrays
+pub mod FixedPair
+pub mod Decided
+pub mod Answers
+pub mod PlanFits

@@ -25,17 +25,28 @@ fixedCollide g t a b =
 unfoldable pub greedyNeed : ℕ → List ℤ → ℕ
 greedyNeed g t = need g t (greedyPlan g t)
 
--- 6: two fixed rows collide, the least a, then the least b. 7: the need exceeds the space.
-abbrev pub planCauses : ℕ → List ℤ → ℕ → List (Cause Answer)
-planCauses g t space =
+-- 6: two fixed rows collide, the least a, then the least b.
+abbrev pub fixedCauses : ℕ → List ℤ → List (Cause Answer)
+fixedCauses g t =
     (pairBelow (fixedCollide g t) (rows t)
     ⇒ A.refusedPair A.fixedRowsCollide (pairFirst (fixedCollide g t) (rows t)) (pairSecond (fixedCollide g t) (rows t)))
-    ∷ (ltb space (greedyNeed g t) ⇒ A.refusedNeed A.needExceedsSpace (greedyNeed g t))
     ∷ []
+
+-- 7: the need exceeds the space.
+abbrev pub needCauses : ℕ → List ℤ → ℕ → List (Cause Answer)
+needCauses g t space = (ltb space (greedyNeed g t) ⇒ A.refusedNeed A.needExceedsSpace (greedyNeed g t)) ∷ []
+
+-- 1 to 7.
+abbrev pub planCauses : ℕ → List ℤ → ℕ → ℕ → List (Cause Answer)
+planCauses g t space room = tableCauses g t space room ++ (fixedCauses g t ++ needCauses g t space)
+
+-- The answer past the checks 1 to 6.
+unfoldable pub fitOf : ℕ → List ℤ → ℕ → Answer
+fitOf g t space = firstCause (needCauses g t space) (A.doneWith (greedyNeed g t))
 
 -- The planner's answer: the first of 1 to 7 that holds, else done with the need.
 unfoldable pub planOf : ℕ → List ℤ → ℕ → ℕ → Answer
-planOf g t space room = firstCause (tableCauses g t space room ++ planCauses g t space) (A.doneWith (greedyNeed g t))
+planOf g t space room = firstCause (planCauses g t space room) (A.doneWith (greedyNeed g t))
 
 -- The answer table in the end: where the answer is done, the first entries are the plan and the rest stays; on every refusal all stays.
 unfoldable pub plannedTable : ℕ → List ℤ → ℕ → List ℤ → List ℤ

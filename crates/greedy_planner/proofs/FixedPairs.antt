@@ -1,0 +1,33 @@
+-- Colliding fixed rows, as the code tests two rows and as the search ends.
+use Prim.Native.Nat.{ℕ}
+use mathlib.Core.Bool.{Bool, true, false, _&&_}
+use mathlib.Core.List.{List}
+use mathlib.Core.Path.{_≡_, refl, sym, _∙_, ap}
+use lib.IntN.{ℤ}
+use Rattle.bounded.specs.Pair.{pairBelow, pairFirst, pairSecond}
+use Rattle.requests.specs.Buffers.{buffer, collides}
+use Rattle.requests.specs.Table.{rows, request}
+use Rattle.requests.specs.declared.Buffer.{Buffer}
+use Rattle.requests.specs.declared.Request.{Request}
+use Rattle.greedy_planner.specs.Plan.{fixedCollide}
+use Rattle.greedy_planner.specs.FixedPair.{fixedPair}
+use Rattle.greedy_planner.specs.declared.fixed.Pair.{Pair}
+use Rattle.greedy_planner.specs.declared.fixed.Pair.the-variants.{Found, Nothing}
+
+-- What the code tests of two rows.
+pub two-rows : (g : ℕ) (t : List ℤ) (a b : ℕ) {x y : Request} {u v : Buffer} {met : Bool} → x ≡ request t a → y ≡ request t b
+    → u ≡ buffer g x (x .offset) → v ≡ buffer g y (y .offset) → met ≡ collides u v → (x .fixed && y .fixed) && met ≡ fixedCollide g t a b
+unfolding fixedCollide
+two-rows g t a b p q h k m = rw (m, h, k, p, q)
+
+module _ (g : ℕ) (t : List ℤ) where
+  -- A pair was found.
+  pub pair-found : (a b : ℕ) → (pairBelow (fixedCollide g t) (rows t) ≡ true) × (a ≡ pairFirst (fixedCollide g t) (rows t)) × (b ≡ pairSecond (fixedCollide g t) (rows t))
+      → Found (record { 0 = a }) (record { 0 = b }) ≡ fixedPair g t
+  unfolding fixedPair
+  pair-found a b h = rw (h .0, fixedPair, ← h .1, ← h .2)
+
+  -- There is none.
+  pub none-found : pairBelow (fixedCollide g t) (rows t) ≡ false → Nothing ≡ fixedPair g t
+  unfolding fixedPair
+  none-found e = rw (e, fixedPair)

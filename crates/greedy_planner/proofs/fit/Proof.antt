@@ -1,0 +1,56 @@
+use borrow.Author.Needs.{needs}
+use Rattle.greedy_planner.proofs.fit.Statement.{statement}
+use Rattle.greedy_planner.proofs.fit.Tie as tie
+use Rattle.greedy_planner.proofs.fit.Reads as reads
+use Rattle.greedy_planner.proofs.fit.Lts as lts
+use Rattle.answer.proofs.Answer.done.Reads as done-reads
+use Rattle.answer.proofs.Answer.refused_need.Reads as refused-need-reads
+use Rattle.greedy_planner.proofs.order.order_rows.Reads as order-rows-reads
+use Rattle.greedy_planner.proofs.place.place_rows.Reads as place-rows-reads
+use Rattle.greedy_planner.proofs.refused.Reads as refused-reads
+use Rattle.greedy_planner.proofs.top.need_of.Reads as need-of-reads
+
+-- src/lib.rt:43:50
+order-rows-requires : tie.Need-order-rows-requires
+order-rows-requires c κs = search needs
+
+-- src/lib.rt:43:9
+place-rows-requires : tie.Need-place-rows-requires
+place-rows-requires c κs = search needs
+
+-- src/lib.rt:44:9
+need-of-requires : tie.Need-need-of-requires
+need-of-requires c κs = search needs
+
+-- src/lib.rt:46:24
+refused-need-requires : tie.Need-refused-need-requires
+refused-need-requires c κs = search needs
+
+-- src/lib.rt:46:9
+refused-requires : tie.Need-refused-requires
+refused-requires c κs = search needs
+
+-- src/lib.rt:46:9
+returns : tie.Need-returns
+returns c = ?
+
+-- src/lib.rt:48:9
+done-requires : tie.Need-done-requires
+done-requires c κs = search needs
+
+-- src/lib.rt:38:1
+returns-2 : tie.Need-returns-2
+returns-2 c = ?
+
+pub fit-spec : {M : Type 1} → statement M
+fit-spec =
+    tie.close
+    (tie.spec
+    order-rows-requires
+    place-rows-requires
+    need-of-requires
+    refused-need-requires
+    refused-requires
+    returns
+    done-requires
+    returns-2)

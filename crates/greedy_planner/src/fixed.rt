@@ -1,0 +1,48 @@
+// Whether two fixed rows collide: the search for the first pair.
+ghost use mathlib.Core.Path.{_≡_};
+ghost use Rattle.greedy_planner.specs.Plan.{fixedCollide};
+ghost use Rattle.greedy_planner.specs.FixedPair.{fixedPair};
+
+use units::Row;
+
+// The pair that a search found, if there is one.
+pub enum Pair {
+    Found(Row, Row),
+    Nothing,
+}
+
+// Whether both rows are fixed and collide, each at its own offset.
+pub(crate) fn fixed_collide(grid: u32, table: &[i32], a: Row, b: Row) -> bool
+    ensures { λ r. ⌜ r ≡ fixedCollide grid (now (table .entry)) (a .0) (b .0) ⌝ }
+{
+    let first = requests::request_at(table, a);
+    let second = requests::request_at(table, b);
+    let first_offset = first.offset;
+    let second_offset = second.offset;
+    let met = requests::collide(
+        requests::buffer_at(grid, first, first_offset),
+        requests::buffer_at(grid, second, second_offset),
+    );
+    (first.fixed & second.fixed) & met
+}
+
+// The first pair of fixed rows that collide, the least first row and then the least second: both scans end at once, at that pair.
+pub(crate) fn first_pair(grid: u32, table: &[i32]) -> Pair
+    ensures { λ r. ⌜ r ≡ fixedPair grid (now (table .entry)) ⌝ }
+{
+    let n = table.len() / 4;
+    let mut pair = Pair::Nothing;
+    let mut a = 0;
+    'scan: while a < n {
+        let mut b = a + 1;
+        while b < n {
+            if fixed_collide(grid, table, Row(a), Row(b)) {
+                pair = Pair::Found(Row(a), Row(b));
+                break 'scan;
+            }
+            b += 1;
+        }
+        a += 1;
+    }
+    pair
+}

@@ -1,0 +1,44 @@
+// The need of a plan: the greatest end of a nonempty row.
+ghost use mathlib.Core.Path.{_≡_};
+ghost use Prim.Native.Nat.{_≤_, _<_, _^_, max};
+ghost use Rattle.requests.specs.Buffers.{end, endOrZero};
+ghost use Rattle.requests.specs.Table.{rows as rowsOf};
+ghost use Rattle.greedy_planner.specs.Arrays.{HoldsPlan};
+ghost use Rattle.greedy_planner.specs.Plan.{greedyNeed};
+
+use requests::Buffer;
+use units::Offset;
+use units::Row;
+
+// The need with one buffer more; an empty one counts for nothing.
+pub(crate) fn raised(need: u64, buffer: Buffer) -> u64
+    requires { ⌜ end buffer < 2 ^ 62 ⌝ }
+    ensures { λ r. ⌜ r ≡ max need (endOrZero buffer) ⌝ }
+{
+    let over = buffer.offset.0 + buffer.length;
+    if 0 < buffer.length {
+        if need < over {
+            return over;
+        }
+        return need;
+    }
+    need
+}
+
+// The need of the plan that the array holds.
+pub(crate) fn need_of(grid: u32, table: &[i32], offsets: [Offset; 256]) -> u64
+    requires { ⌜ rowsOf (now table) ≤ 256 ⌝ }
+    requires { ⌜ HoldsPlan grid (now table) offsets ⌝ }
+    ensures { λ r. ⌜ r ≡ greedyNeed grid (now (table .entry)) ⌝ }
+{
+    let n = table.len() / 4;
+    let mut need = 0;
+    let mut row = 0;
+    while row < n {
+        let request = requests::request_at(table, Row(row));
+        let offset = offsets[row];
+        need = raised(need, requests::buffer_at(grid, request, offset));
+        row += 1;
+    }
+    need
+}
