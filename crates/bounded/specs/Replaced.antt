@@ -4,7 +4,7 @@
 use Prim.Native.Nat.{ℕ, zero, suc, _+_, _<_, _≤_}
 use mathlib.Core.List.{List}
 use mathlib.Core.Logic.{_⊎_, inl, inr, ⊎-elim}
-use mathlib.Core.Path.{_≡_, refl, sym, _∙_, ap, subst}
+use mathlib.Core.Path.{_≡_, refl, sym, _∙_, ap, ap₂, subst}
 use native.Mathlib.Nat.{eq-or-lt-of-le, le-of-suc-le-suc}
 use native.Mathlib.Numerals.{add-one}
 use native.Mathlib.Omega.{arith}
@@ -48,3 +48,9 @@ module _ {A : Type 0} (f : ℕ → A) where
   pub replaced-more : (n : ℕ) (xs : List A) → set (replaced f n xs) n (f n) ≡ replaced f (n + 1) xs
   unfolding replaced
   replaced-more n xs = rw add-one
+
+-- Functions that agree below n replace alike.
+pub replaced-same : {A : Type 0} (f g : ℕ → A) (n : ℕ) (xs : List A) → ((i : ℕ) → i < n → f i ≡ g i) → replaced f n xs ≡ replaced g n xs
+unfolding replaced
+replaced-same f g zero xs h = refl
+replaced-same f g (suc n) xs h = ap₂ (λ l a. set l n a) (replaced-same f g n xs (λ i l. h i (omega arith))) (h n (omega arith))

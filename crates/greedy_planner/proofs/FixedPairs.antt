@@ -9,6 +9,8 @@ use Rattle.requests.specs.Buffers.{buffer, collides}
 use Rattle.requests.specs.Table.{rows, request}
 use Rattle.requests.specs.declared.Buffer.{Buffer}
 use Rattle.requests.specs.declared.Request.{Request}
+use Rattle.units.specs.declared.Row.{Row}
+use native.Mathlib.Omega.{arith}
 use Rattle.greedy_planner.specs.Plan.{fixedCollide}
 use Rattle.greedy_planner.specs.FixedPair.{fixedPair}
 use Rattle.greedy_planner.specs.declared.fixed.Pair.{Pair}
@@ -31,3 +33,29 @@ module _ (g : ℕ) (t : List ℤ) where
   pub none-found : pairBelow (fixedCollide g t) (rows t) ≡ false → Nothing ≡ fixedPair g t
   unfolding fixedPair
   none-found e = rw (e, fixedPair)
+
+-- What a pair that was handed back says,
+pub pair-says : (g : ℕ) (t : List ℤ) (a b : Row) → Found a b ≡ fixedPair g t
+    → (pairBelow (fixedCollide g t) (rows t) ≡ true) × (a .0 ≡ pairFirst (fixedCollide g t) (rows t)) × (b .0 ≡ pairSecond (fixedCollide g t) (rows t))
+unfolding fixedPair
+pair-says g t a b e = go (pairBelow (fixedCollide g t) (rows t)) refl
+  where
+    go : (x : Bool) → pairBelow (fixedCollide g t) (rows t) ≡ x
+        → (pairBelow (fixedCollide g t) (rows t) ≡ true) × (a .0 ≡ pairFirst (fixedCollide g t) (rows t)) × (b .0 ≡ pairSecond (fixedCollide g t) (rows t))
+    go true p =
+        let q : Found a b ≡ Found (record { 0 = pairFirst (fixedCollide g t) (rows t) }) (record { 0 = pairSecond (fixedCollide g t) (rows t) }) = rw (p, fixedPair) at e in
+        let r : a ≡ record { 0 = pairFirst (fixedCollide g t) (rows t) } = cc in
+        let s : b ≡ record { 0 = pairSecond (fixedCollide g t) (rows t) } = cc in
+        (p, ap (λ (z : Row). z .0) r, ap (λ (z : Row). z .0) s)
+    go false p = absurd (let q : Found a b ≡ Nothing = rw (p, fixedPair) at e in let z : _≡_ {A = ℕ} 0 1 = cc in omega arith)
+
+-- and what it says that there is none.
+pub nothing-says : (g : ℕ) (t : List ℤ) → Nothing ≡ fixedPair g t → pairBelow (fixedCollide g t) (rows t) ≡ false
+unfolding fixedPair
+nothing-says g t e = go (pairBelow (fixedCollide g t) (rows t)) refl
+  where
+    go : (x : Bool) → pairBelow (fixedCollide g t) (rows t) ≡ x → x ≡ false
+    go false p = refl
+    go true p =
+        absurd (let q : Nothing ≡ Found (record { 0 = pairFirst (fixedCollide g t) (rows t) }) (record { 0 = pairSecond (fixedCollide g t) (rows t) }) = rw (p, fixedPair) at e in
+        let z : _≡_ {A = ℕ} 0 1 = cc in omega arith)

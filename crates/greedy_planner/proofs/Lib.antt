@@ -6,3 +6,4 @@ pub mod Shifting
 pub mod Filling
 pub mod Needing
 pub mod FixedPairs
+pub mod Tables

@@ -1,3 +1,17 @@
+use Prim.Native.Nat.{ℕ, _<_}
+use mathlib.Core.Bool.{true}
+use mathlib.Core.List.{List}
+use mathlib.Core.Path.{_≡_, sym, _∙_, ap, ap₂}
+use native.Mathlib.Omega.{arith}
+use denote.Ref.{now}
+use lib.IntN.{ℤ}
+use Rattle.answer.specs.Answer.{refusedPair, fixedRowsCollide}
+use Rattle.bounded.specs.Pair.{pairBelow, pairFirst, pairSecond, least-pair}
+use Rattle.requests.specs.CheckLaws.{Checked, checked, numberOf}
+use Rattle.requests.specs.Table.{rows}
+use Rattle.greedy_planner.specs.Plan.{fixedCollide}
+use Rattle.greedy_planner.specs.Answers.{check-stands, pair-refused, need-decides}
+use Rattle.greedy_planner.proofs.FixedPairs.{pair-says, nothing-says}
 use borrow.Author.Needs.{needs}
 use Rattle.greedy_planner.proofs.decide.Statement.{statement}
 use Rattle.greedy_planner.proofs.decide.Tie as tie
@@ -9,6 +23,28 @@ use Rattle.greedy_planner.proofs.fixed.first_pair.Reads as first-pair-r
 use Rattle.greedy_planner.proofs.refused.Reads as refused-reads
 use Rattle.requests.proofs.check.Reads as check-reads
 
+abbrev Grid : tie.After-a → ℕ
+Grid c = c .before .before .before .before .before .before .args .grid
+
+abbrev Table : tie.After-a → List ℤ
+Table c = now (c .before .before .before .before .before .before .args .table)
+
+-- past the checks 1 to 5, what they say
+checks : (c : tie.Else1) → Checked (c .before .before .before .args .grid) (now (c .before .before .before .args .table)) (c .before .before .before .args .space) (c .before .before .before .args .room)
+checks c = checked _ _ _ _ (sym (ap numberOf (c .before .before .check .ensures)) ∙ c .if1 .left)
+
+-- the pair that was found is the first
+pair : (c : tie.After-a) → (pairBelow (fixedCollide (Grid c) (Table c)) (rows (Table c)) ≡ true) × (c .a .given .0 .0 .0 ≡ pairFirst (fixedCollide (Grid c) (Table c)) (rows (Table c))) × (c .a .given .0 .1 .0 .0 ≡ pairSecond (fixedCollide (Grid c) (Table c)) (rows (Table c)))
+pair c = pair-says _ _ _ _ (sym (c .a .given .1) ∙ c .before .before .first-pair .ensures)
+
+-- it lies below the number of rows, which is small
+small : (c : tie.After-a) → (c .a .given .0 .0 .0 < 256) × (c .a .given .0 .1 .0 .0 < 256)
+small c =
+    let p = pair c in
+    let l = least-pair (fixedCollide (Grid c) (Table c)) (rows (Table c)) (p .0) in
+    let k = checks (c .before .before .before) .shaped .few in
+    omega (arith, l .rising, l .within, p .1, p .2)
+
 -- src/lib.rt:57:9
 check-requires : tie.Need-check-requires
 check-requires c κs = search needs
@@ -19,7 +55,10 @@ refused-requires c κs = search needs
 
 -- src/lib.rt:59:9
 returns : tie.Need-returns
-returns c = ?
+returns c =
+    let e = c .before .before .before .check .ensures in
+    let a = c .refused .ensures ∙ e in
+    record { answer = a ∙ check-stands _ _ _ _ (λ z. c .before .if1 .taken (ap numberOf e ∙ z)); plan = λ z. absurd (c .before .if1 .taken (sym (ap numberOf (c .refused .ensures)) ∙ z)) }
 
 -- src/lib.rt:61:11
 first-pair-requires : tie.Need-first-pair-requires
@@ -31,11 +70,11 @@ enum-known-a c = search needs
 
 -- src/lib.rt:64:13
 cast-refused-pair : tie.Need-cast-refused-pair
-cast-refused-pair c = ?
+cast-refused-pair c = omega (arith, small (c .before .before))
 
 -- src/lib.rt:65:13
 cast-refused-pair-2 : tie.Need-cast-refused-pair-2
-cast-refused-pair-2 c = ?
+cast-refused-pair-2 c = omega (arith, small (c .before .before .before))
 
 -- src/lib.rt:62:38
 refused-pair-requires : tie.Need-refused-pair-requires
@@ -51,15 +90,23 @@ enum-told c = search needs
 
 -- src/lib.rt:67:26
 fit-requires : tie.Need-fit-requires
-fit-requires c κs = ?
+fit-requires c κs = let k = checks (c .before .before .before) in ((k .shaped .few, c .before .before .before .before .before .before .pre), record { each = k .goodRows })
 
 -- src/lib.rt:53:1
 returns-2 : tie.Need-returns-2
-returns-2 c = ?
+returns-2 c =
+    let p = pair (c .before .before .before .before .before) in
+    let a = c .refused2 .ensures ∙ c .before .refused-pair .ensures in
+    record {
+      answer = a ∙ ap₂ (refusedPair fixedRowsCollide) (p .1) (p .2) ∙ pair-refused _ _ _ _ (checks (c .before .before .before .before .before .before .before .before)) (p .0);
+      plan = λ z. absurd (let y = ap numberOf a in omega arith);
+    }
 
 -- src/lib.rt:53:1
 returns-3 : tie.Need-returns-3
-returns-3 c = ?
+returns-3 c =
+    let k = checks (c .before .before .before .before) in
+    record { answer = c .fit .ensures .answer ∙ need-decides _ _ _ _ k (nothing-says _ _ (sym (c .before .enum-told .given .1) ∙ c .before .before .before .first-pair .ensures)); plan = c .fit .ensures .plan }
 
 pub decide-spec : {M : Type 1} → statement M
 decide-spec =

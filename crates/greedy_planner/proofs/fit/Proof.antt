@@ -1,3 +1,8 @@
+use mathlib.Core.Path.{_≡_, sym, _∙_, ap}
+use native.Mathlib.Omega.{arith}
+use Rattle.requests.specs.CheckLaws.{numberOf}
+use Rattle.greedy_planner.specs.Answers.{fit-refused, fit-done}
+use Rattle.greedy_planner.specs.Decided.{Fitted}
 use borrow.Author.Needs.{needs}
 use Rattle.greedy_planner.proofs.fit.Statement.{statement}
 use Rattle.greedy_planner.proofs.fit.Tie as tie
@@ -32,7 +37,10 @@ refused-requires c κs = search needs
 
 -- src/lib.rt:46:9
 returns : tie.Need-returns
-returns c = ?
+returns c =
+    let e = c .before .before .before .need-of .ensures in
+    let a = c .refused .ensures ∙ c .before .refused-need .ensures in
+    record { answer = a ∙ rw e (fit-refused _ _ _ (rw e at (c .before .before .if1 .taken))); plan = λ z. absurd (let y = ap numberOf a in omega arith) }
 
 -- src/lib.rt:48:9
 done-requires : tie.Need-done-requires
@@ -40,7 +48,9 @@ done-requires c κs = search needs
 
 -- src/lib.rt:38:1
 returns-2 : tie.Need-returns-2
-returns-2 c = ?
+returns-2 c =
+    let e = c .before .before .need-of .ensures in
+    record { answer = c .done .ensures ∙ rw e (fit-done _ _ _ (rw e at (c .before .if1 .left))); plan = λ z. c .before .before .before .place-rows .ensures }
 
 pub fit-spec : {M : Type 1} → statement M
 fit-spec =

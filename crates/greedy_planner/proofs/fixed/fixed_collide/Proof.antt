@@ -1,3 +1,4 @@
+use Rattle.greedy_planner.proofs.FixedPairs.{two-rows}
 use borrow.Author.Needs.{needs}
 use Rattle.greedy_planner.proofs.fixed.fixed_collide.Statement.{statement}
 use Rattle.greedy_planner.proofs.fixed.fixed_collide.Tie as tie
@@ -29,7 +30,7 @@ collide-requires c κs = search needs
 
 -- src/fixed.rt:15:1
 returns : tie.Need-returns
-returns c = ?
+returns c = two-rows (c .before .before .before .before .before .before .before .before .before .args .grid) _ _ _ (c .before .before .before .before .before .before .before .before .request-at .ensures) (c .before .before .before .before .before .before .before .request-at2 .ensures) (c .before .before .before .before .buffer-at .ensures) (c .before .before .before .buffer-at2 .ensures) (c .before .before .collide .ensures)
 
 pub fixed-collide-spec : {M : Type 1} → statement M
 fixed-collide-spec =
