@@ -6,6 +6,8 @@ use mathlib.Core.Logic.{_⊎_, inl, inr}
 use mathlib.Core.Path.{_≡_, refl, sym, _∙_}
 use native.Mathlib.Decide.{decLt}
 use native.Mathlib.Omega.{arith}
+use borrow.Author.Tests.{eqb-true, eqb-false}
+use lib.Dec.{eqb}
 
 -- One number is below another, or it is not.
 pub lt-or-le : (a b : ℕ) → (a < b) ⊎ (b ≤ a)
@@ -49,3 +51,11 @@ pub same-test : (x y : Bool) → (x ≡ true → y ≡ true) → (y ≡ true →
 same-test true y f g = sym (f refl)
 same-test false true f g = g refl
 same-test false false f g = refl
+
+-- Two numbers are the same or not.
+pub same-or-not : (a b : ℕ) → (a ≡ b) ⊎ (a ≡ b → ⊥)
+same-or-not a b = go (eqb a b) refl
+  where
+    go : (x : Bool) → eqb a b ≡ x → (a ≡ b) ⊎ (a ≡ b → ⊥)
+    go true e = inl (eqb-true a b e)
+    go false e = inr (eqb-false a b e)

@@ -11,7 +11,7 @@ use Rattle.requests.specs.declared.Buffer.{Buffer}
 use Rattle.requests.specs.declared.Request.{Request}
 use Rattle.units.specs.declared.Row.{Row}
 use native.Mathlib.Omega.{arith}
-use Rattle.greedy_planner.specs.Plan.{fixedCollide}
+use Rattle.greedy_rule.specs.Plan.{fixedCollide}
 use Rattle.greedy_planner.specs.FixedPair.{fixedPair}
 use Rattle.greedy_planner.specs.declared.fixed.Pair.{Pair}
 use Rattle.greedy_planner.specs.declared.fixed.Pair.the-variants.{Found, Nothing}

@@ -10,8 +10,8 @@ use Rattle.requests.specs.Buffers.{buffer, bufferAt, endOrZero, need}
 use Rattle.requests.specs.Table.{rows, request}
 use Rattle.requests.specs.declared.Buffer.{Buffer}
 use Rattle.requests.specs.declared.Request.{Request}
-use Rattle.placement.specs.Greedy.{greedyPlan}
-use Rattle.greedy_planner.specs.Plan.{greedyNeed}
+use Rattle.greedy_rule.specs.Greedy.{greedyPlan}
+use Rattle.greedy_rule.specs.Plan.{greedyNeed}
 
 -- The greatest end of the rows below i.
 pub record Needing (g : ℕ) (t : List ℤ) (top i : ℕ) : Type 0 where

@@ -8,9 +8,9 @@ use lib.ListN.{length}
 use Rattle.bounded.specs.Replaced.{replaced, replaced-same}
 use Rattle.units.specs.declared.Offset.{Offset}
 use Rattle.requests.specs.Table.{rows}
-use Rattle.placement.specs.Greedy.{greedyPlan}
+use Rattle.greedy_rule.specs.Greedy.{greedyPlan}
 use Rattle.greedy_planner.specs.Arrays.{offsetIn, HoldsPlan, storedTable}
-use Rattle.greedy_planner.specs.Plan.{planOf, plannedTable}
+use Rattle.greedy_rule.specs.Plan.{planOf, plannedTable}
 
 module _ (g : ℕ) (t : List ℤ) (space : ℕ) (offsets : List ℤ) where
   -- A refusal leaves it as it was.

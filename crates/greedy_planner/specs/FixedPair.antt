@@ -5,7 +5,7 @@ use mathlib.Core.List.{List}
 use lib.IntN.{ℤ}
 use Rattle.bounded.specs.Pair.{pairBelow, pairFirst, pairSecond}
 use Rattle.requests.specs.Table.{rows}
-use Rattle.greedy_planner.specs.Plan.{fixedCollide}
+use Rattle.greedy_rule.specs.Plan.{fixedCollide}
 use Rattle.greedy_planner.specs.declared.fixed.Pair.{Pair}
 use Rattle.greedy_planner.specs.declared.fixed.Pair.the-variants.{Found, Nothing}
 

@@ -1,8 +1,5 @@
-pub mod Plan
 pub mod Positions
 pub mod Starts
 pub mod Arrays
 pub mod FixedPair
 pub mod Decided
-pub mod Answers
-pub mod PlanFits

@@ -1,6 +1,6 @@
 // Whether two fixed rows collide: the search for the first pair.
 ghost use mathlib.Core.Path.{_≡_};
-ghost use Rattle.greedy_planner.specs.Plan.{fixedCollide};
+ghost use Rattle.greedy_rule.specs.Plan.{fixedCollide};
 ghost use Rattle.greedy_planner.specs.FixedPair.{fixedPair};
 
 use units::Row;

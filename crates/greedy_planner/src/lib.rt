@@ -11,7 +11,7 @@ ghost use Rattle.answer.specs.Answer.{done as doneNumber};
 ghost use Rattle.requests.specs.Limits.{grid as gridOf};
 ghost use Rattle.requests.specs.Table.{rows as rowsOf};
 ghost use Rattle.greedy_planner.specs.Arrays.{GoodRows, HoldsPlan, SmallOffsets, storedTable};
-ghost use Rattle.greedy_planner.specs.Plan.{planOf, plannedTable, fitOf};
+ghost use Rattle.greedy_rule.specs.Plan.{planOf, plannedTable, fitOf};
 ghost use Rattle.greedy_planner.specs.Decided.{Decided, Fitted};
 
 use answer::Answer;

@@ -4,7 +4,7 @@ ghost use Prim.Native.Nat.{_≤_, _<_, _^_, max};
 ghost use Rattle.requests.specs.Buffers.{end, endOrZero};
 ghost use Rattle.requests.specs.Table.{rows as rowsOf};
 ghost use Rattle.greedy_planner.specs.Arrays.{HoldsPlan};
-ghost use Rattle.greedy_planner.specs.Plan.{greedyNeed};
+ghost use Rattle.greedy_rule.specs.Plan.{greedyNeed};
 
 use requests::Buffer;
 use units::Offset;

@@ -1,4 +1,4 @@
--- Law: "An empty row takes 0 and hinders nobody": an unfixed empty row has offset 0, and leaving it out of the order changes no other row's offset.
+-- Law: "An empty row takes 0 and hinders nobody": its lowest offset is 0, and leaving it out of an order changes no other row's offset.
 use Prim.Native.Nat.{ℕ, zero, suc, _+_, _<_, _≤_}
 use mathlib.Core.Bool.{Bool, true, false, not, _&&_, and-false}
 use mathlib.Core.List.{List, _∷_, _++_}
@@ -9,16 +9,15 @@ use native.Mathlib.Omega.{arith}
 use lib.IntN.{ℤ}
 use lib.ListN.{length, getD, length-append, List·getD-append}
 use lib.Seq.{getD-append-add, getD-append-seam}
-use Rattle.bounded.specs.Boolean.{contrary, lt-or-le}
+use Rattle.bounded.specs.Boolean.{same-or-not}
 use Rattle.bounded.specs.First.{IsLeast, one-least, holds-same, none-found}
 use Rattle.requests.specs.Buffers.{bufferAt, collides}
 use Rattle.requests.specs.Colliding.{apart, collides-either}
 use Rattle.requests.specs.Rounding.{occupied-empty}
 use Rattle.requests.specs.Table.{rows, request, fixed}
 use Rattle.placement.specs.Placing.{Placing, put, blocks, free, lowest, offsetFor, placing, place}
-use Rattle.placement.specs.Greedy.{fixedFirst, greedyOrder, greedyPlan}
+use Rattle.placement.specs.Put.{put-there, put-elsewhere, placed-there, placed-elsewhere}
 use Rattle.placement.specs.LowestFree.{lowest-is}
-use Rattle.placement.specs.PlanByPosition.{put-there, put-elsewhere, placed-there, placed-elsewhere, same-or-not, plan-takes}
 
 -- Two placings that differ at most in row r.
 record Alike (r : ℕ) (s s′ : Placing) : Type 0 where
@@ -111,11 +110,6 @@ module _ (g : ℕ) (t : List ℤ) (r : ℕ) (e : request t r .size ≡ 0) where
         ∙ same-rest (length ys) (omega arith) .offset q d
         ∙ sym (ap (λ (m : ℕ). placing g t (xs ++ ys) m .offset q) (length-append xs ys))
 
-    -- So it is with the greedy plan.
-    pub empty-changes-nothing : fixedFirst t (greedyOrder g t) ≡ xs ++ (r ∷ ys) → (q : ℕ) → (q ≡ r → ⊥) → greedyPlan g t q ≡ place g t (xs ++ ys) q
-    unfolding greedyPlan
-    empty-changes-nothing h q d = ap (λ (l : List ℕ). place g t l q) h ∙ left-out q d
-
   -- An unfixed empty row takes offset 0, whatever is placed.
   pub empty-lowest : (s : Placing) → lowest g t s r ≡ 0
   unfolding free
@@ -124,8 +118,3 @@ module _ (g : ℕ) (t : List ℤ) (r : ℕ) (e : request t r .size ≡ 0) where
     where
       free-there : free g t s r 0 ≡ true
       free-there = ap not (none-found (blocks g t s r 0) (rows t) (λ b l. ap (λ (x : Bool). s .placed b && x) (sym (collides-either (bufferAt g t b (s .offset b)) (bufferAt g t r 0)) ∙ empty-apart b (s .offset b) 0) ∙ and-false (s .placed b)))
-
-  -- In the greedy plan an unfixed empty row has offset 0.
-  pub empty-at-zero : r < rows t → fixed t r ≡ false → greedyPlan g t r ≡ 0
-  unfolding offsetFor
-  empty-at-zero l f = plan-takes g t r l ∙ rw (f, offsetFor) (empty-lowest _)

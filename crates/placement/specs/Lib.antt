@@ -1,9 +1,6 @@
 pub mod Placing
-pub mod Greedy
 pub mod Walk
+pub mod Put
 pub mod LowestFree
 pub mod WalkReachesLowest
-pub mod GreedyOrder
-pub mod PlanByPosition
-pub mod NoCollision
 pub mod EmptyRows

@@ -9,8 +9,8 @@ use Rattle.answer.specs.Answer.{refusedPair, fixedRowsCollide}
 use Rattle.bounded.specs.Pair.{pairBelow, pairFirst, pairSecond, least-pair}
 use Rattle.requests.specs.CheckLaws.{Checked, checked, numberOf}
 use Rattle.requests.specs.Table.{rows}
-use Rattle.greedy_planner.specs.Plan.{fixedCollide}
-use Rattle.greedy_planner.specs.Answers.{check-stands, pair-refused, need-decides}
+use Rattle.greedy_rule.specs.Plan.{fixedCollide}
+use Rattle.greedy_rule.specs.Answers.{check-stands, pair-refused, need-decides}
 use Rattle.greedy_planner.proofs.FixedPairs.{pair-says, nothing-says}
 use borrow.Author.Needs.{needs}
 use Rattle.greedy_planner.proofs.decide.Statement.{statement}

@@ -1,7 +1,7 @@
 use mathlib.Core.Path.{_≡_, sym, _∙_, ap}
 use native.Mathlib.Omega.{arith}
 use Rattle.requests.specs.CheckLaws.{numberOf}
-use Rattle.greedy_planner.specs.Answers.{fit-refused, fit-done}
+use Rattle.greedy_rule.specs.Answers.{fit-refused, fit-done}
 use Rattle.greedy_planner.specs.Decided.{Fitted}
 use borrow.Author.Needs.{needs}
 use Rattle.greedy_planner.proofs.fit.Statement.{statement}

@@ -5,8 +5,8 @@ use denote.Ref.{now}
 use lib.ListN.{length}
 use Rattle.requests.specs.CheckLaws.{numberOf}
 use Rattle.requests.specs.Limits.{grid}
-use Rattle.greedy_planner.specs.Answers.{Done, done-says}
-use Rattle.greedy_planner.specs.PlanFits.{plan-fits}
+use Rattle.greedy_rule.specs.Answers.{Done, done-says}
+use Rattle.greedy_rule.specs.PlanFits.{plan-fits}
 use Rattle.greedy_planner.specs.Decided.{Decided}
 use Rattle.greedy_planner.proofs.Tables.{table-kept, table-planned}
 use borrow.Author.Needs.{needs}

@@ -3,7 +3,7 @@ use mathlib.Core.Path.{_≡_, refl, _∙_, sym}
 use native.Mathlib.Omega.{arith}
 use Rattle.bounded.specs.First.{scan, pass}
 use Rattle.bounded.specs.Pair.{Outer, Inner, inner-out, inner-hit, outer-out}
-use Rattle.greedy_planner.specs.Plan.{fixedCollide}
+use Rattle.greedy_rule.specs.Plan.{fixedCollide}
 use Rattle.greedy_planner.specs.declared.fixed.Pair.{Pair}
 use Rattle.greedy_planner.specs.declared.fixed.Pair.the-variants.{Found, Nothing}
 use Rattle.greedy_planner.proofs.FixedPairs.{pair-found, none-found}

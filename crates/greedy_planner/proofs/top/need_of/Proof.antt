@@ -1,6 +1,6 @@
 use Rattle.requests.specs.Buffers.{bufferAt}
 use Rattle.requests.specs.Rounding.{occupied-most}
-use Rattle.placement.specs.Greedy.{greedyPlan}
+use Rattle.greedy_rule.specs.Greedy.{greedyPlan}
 use Rattle.greedy_planner.proofs.Needing.{Needing, needing-start, needing-more, needing-done, row-buffer}
 use Prim.Native.Nat.{_-_, _≤_}
 use mathlib.Core.Path.{_≡_, sym, _∙_, ap}

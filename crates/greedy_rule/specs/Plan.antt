@@ -14,7 +14,7 @@ use Rattle.bounded.specs.Replaced.{replaced}
 use Rattle.requests.specs.Buffers.{bufferAt, collides, need}
 use Rattle.requests.specs.Checks.{tableCauses}
 use Rattle.requests.specs.Table.{rows, fixed, fixedOffset}
-use Rattle.placement.specs.Greedy.{greedyPlan}
+use Rattle.greedy_rule.specs.Greedy.{greedyPlan}
 
 -- Two fixed rows collide, each at its own offset.
 unfoldable pub fixedCollide : ℕ → List ℤ → ℕ → ℕ → Bool

@@ -10,9 +10,9 @@ use Rattle.bounded.specs.Boolean.{lt-or-le}
 use Rattle.requests.specs.Buffers.{bufferAt}
 use Rattle.requests.specs.Colliding.{Colliding}
 use Rattle.requests.specs.Table.{rows, fixed, fixedOffset}
-use Rattle.placement.specs.Greedy.{greedyPlan}
-use Rattle.placement.specs.GreedyOrder.{position, rowAt, position-listed, fixed-before-rest}
-use Rattle.placement.specs.PlanByPosition.{fixed-rows-stay, rest-takes-lowest}
+use Rattle.greedy_rule.specs.Greedy.{greedyPlan}
+use Rattle.greedy_rule.specs.GreedyOrder.{position, rowAt, position-listed, fixed-before-rest}
+use Rattle.greedy_rule.specs.PlanByPosition.{fixed-rows-stay, rest-takes-lowest}
 
 module _ (g : ℕ) (t : List ℤ) where
   -- No two fixed rows collide.

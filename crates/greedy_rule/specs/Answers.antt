@@ -19,8 +19,8 @@ use Rattle.requests.specs.CheckLaws.{Checked, numberOf, none-refuses, checked}
 use Rattle.requests.specs.Checks.{tableCauses, checkOf}
 use Rattle.requests.specs.Colliding.{Colliding, collides-says, collides-of, not-colliding}
 use Rattle.requests.specs.Table.{rows, fixed, fixedOffset}
-use Rattle.placement.specs.NoCollision.{FixedRowsApart}
-use Rattle.greedy_planner.specs.Plan.{fixedCollide, greedyNeed, fixedCauses, needCauses, planCauses, fitOf, planOf}
+use Rattle.greedy_rule.specs.NoCollision.{FixedRowsApart}
+use Rattle.greedy_rule.specs.Plan.{fixedCollide, greedyNeed, fixedCauses, needCauses, planCauses, fitOf, planOf}
 
 -- ---- two fixed rows collide
 

@@ -13,11 +13,11 @@ use Rattle.requests.specs.Limits.{greatestSpace}
 use Rattle.requests.specs.Needs.{need-bounds}
 use Rattle.requests.specs.Rounding.{occupied-holds}
 use Rattle.requests.specs.Table.{rows, request, fixed}
-use Rattle.placement.specs.EmptyRows.{empty-at-zero}
-use Rattle.placement.specs.Greedy.{greedyPlan}
-use Rattle.placement.specs.PlanByPosition.{fixed-rows-stay}
-use Rattle.greedy_planner.specs.Plan.{greedyNeed}
-use Rattle.greedy_planner.specs.Answers.{Done}
+use Rattle.greedy_rule.specs.EmptyRows.{empty-at-zero}
+use Rattle.greedy_rule.specs.Greedy.{greedyPlan}
+use Rattle.greedy_rule.specs.PlanByPosition.{fixed-rows-stay}
+use Rattle.greedy_rule.specs.Plan.{greedyNeed}
+use Rattle.greedy_rule.specs.Answers.{Done}
 
 -- A nonempty row ends within the space, a fixed empty one has its own offset, and any other empty one offset 0.
 pub plan-fits : (g : ℕ) (t : List ℤ) (space room : ℕ) → 0 < g → Done g t space room → (r : ℕ) → r < rows t → greedyPlan g t r ≤ greatestSpace

@@ -10,42 +10,15 @@ use borrow.Author.Tests.{eqb-true, eqb-false, eq-eqb, ne-eqb, lt-ltb, le-ltb, lt
 use lib.Dec.{ltb, eqb}
 use lib.IntN.{ℤ}
 use lib.ListN.{length}
-use Rattle.bounded.specs.Boolean.{lt-or-le}
+use Rattle.bounded.specs.Boolean.{lt-or-le, same-or-not}
 use Rattle.requests.specs.Buffers.{bufferAt}
 use Rattle.requests.specs.Colliding.{Colliding}
 use Rattle.requests.specs.Table.{rows, fixed, fixedOffset}
 use Rattle.placement.specs.Placing.{Placing, put, lowest, offsetFor, placing, place}
-use Rattle.placement.specs.Greedy.{fixedFirst, greedyOrder, greedyPlan}
-use Rattle.placement.specs.GreedyOrder.{position, rowAt, whole-length, position-listed, listed-position}
+use Rattle.placement.specs.Put.{put-there, put-elsewhere, placed-there, placed-elsewhere}
+use Rattle.greedy_rule.specs.Greedy.{fixedFirst, greedyOrder, greedyPlan}
+use Rattle.greedy_rule.specs.GreedyOrder.{position, rowAt, whole-length, position-listed, listed-position}
 use Rattle.placement.specs.LowestFree.{LowestFree, Blocker, lowest-free}
-
--- The offset that was put is found there,
-pub put-there : (s : Placing) (r o b : ℕ) → b ≡ r → put s r o .offset b ≡ o
-unfolding put
-put-there s r o b e = rw (eq-eqb b r e, put)
-
--- and every other stays.
-pub put-elsewhere : (s : Placing) (r o b : ℕ) → (b ≡ r → ⊥) → put s r o .offset b ≡ s .offset b
-unfolding put
-put-elsewhere s r o b d = rw (ne-eqb b r d, put)
-
--- So with what is placed.
-pub placed-there : (s : Placing) (r o b : ℕ) → b ≡ r → put s r o .placed b ≡ true
-unfolding put
-placed-there s r o b e = rw (eq-eqb b r e)
-
--- Every other row is placed or not as before.
-pub placed-elsewhere : (s : Placing) (r o b : ℕ) → (b ≡ r → ⊥) → put s r o .placed b ≡ s .placed b
-unfolding put
-placed-elsewhere s r o b d = rw (ne-eqb b r d)
-
--- Two numbers are the same or not.
-pub same-or-not : (a b : ℕ) → (a ≡ b) ⊎ (a ≡ b → ⊥)
-same-or-not a b = go (eqb a b) refl
-  where
-    go : (x : Bool) → eqb a b ≡ x → (a ≡ b) ⊎ (a ≡ b → ⊥)
-    go true e = inl (eqb-true a b e)
-    go false e = inr (eqb-false a b e)
 
 module _ (g : ℕ) (t : List ℤ) where
   -- What is placed once the rows of the first k places are.
