@@ -2,14 +2,14 @@
 --     count p n          the number of k < n at which p holds
 -- A loop starts by `count-none` and turns by `count-yes` and `count-no`.
 use Prim.Native.Nat.{ℕ, zero, suc, _+_, _<_, _≤_}
-use mathlib.Core.Bool.{Bool, true, false, not, _&&_, _||_}
-use mathlib.Core.Logic.{_⊎_, inl, inr, ⊎-elim}
-use mathlib.Core.Path.{_≡_, refl, sym, _∙_, ap, subst}
+use mathlib.Core.Bool.{Bool, true, false, not, _&&_}
+use mathlib.Core.Logic.{⊎-elim}
+use mathlib.Core.Path.{_≡_, refl, ap, subst}
 use native.Mathlib.Nat.{eq-or-lt-of-le, le-of-suc-le-suc}
 use native.Mathlib.Numerals.{add-one}
 use native.Mathlib.Omega.{arith}
-use Rattle.bounded.specs.Boolean.{contrary, holds-or-not}
-use Rattle.bounded.specs.First.{holdsBelow, firstIn, none-holds, found, some-found}
+use Rattle.bounded.specs.Boolean.{contrary}
+use Rattle.bounded.specs.First.{holdsBelow, none-holds, found}
 
 -- One where the test holds, else nothing.
 unfoldable pub one : Bool → ℕ

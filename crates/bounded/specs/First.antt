@@ -4,12 +4,12 @@
 -- A reader believes these by `first-is` and `least-is`, which mention no search. A loop uses `Scan p s n i`: the scan from s has come to i and
 -- found nothing; `scan` starts it, `pass` is one more turn, `hit` leaves it early, `out` runs it to the end.
 use Prim.Native.Nat.{ℕ, zero, suc, _+_, _-_, _<_, _≤_, zero-le}
-use mathlib.Core.Bool.{Bool, true, false, cond}
-use mathlib.Core.Logic.{_⊎_, inl, inr, ⊎-elim}
+use mathlib.Core.Bool.{Bool, true, false}
+use mathlib.Core.Logic.{⊎-elim}
 use mathlib.Core.Path.{_≡_, refl, sym, _∙_, subst}
 use native.Mathlib.Nat.{eq-or-lt-of-le, not-le-of-lt, le-antisymm}
 use native.Mathlib.Omega.{arith}
-use borrow.Author.Tests.{le-ltb, lt-ltb, ltb-true, ltb-false}
+use borrow.Author.Tests.{le-ltb, ltb-true, ltb-false}
 use lib.Dec.{ltb}
 use Rattle.bounded.specs.Boolean.{lt-or-le, contrary, same-test}
 

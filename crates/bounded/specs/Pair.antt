@@ -5,13 +5,13 @@
 -- For two nested scans, the outer at a and the inner at b: `Outer` and `Inner`, with `inner-out`, `inner-hit` and `outer-out` for their ends.
 use Prim.Native.Nat.{ℕ, _+_, _<_, _≤_}
 use mathlib.Core.Bool.{Bool, true, false}
-use mathlib.Core.Path.{_≡_, refl, sym, _∙_, subst}
+use mathlib.Core.Path.{_≡_, subst}
+use mathlib.Core.Logic.{⊎-elim}
 use native.Mathlib.Omega.{arith}
 use borrow.Author.Tests.{le-ltb, lt-ltb, ltb-true, ltb-false}
 use lib.Dec.{ltb}
 use Rattle.bounded.specs.Boolean.{contrary, lt-or-le}
-use Rattle.bounded.specs.First.{firstIn, holdsBelow, IsFirst, first-is, none-holds, none-found, found, Scan, pass, hit, out}
-use mathlib.Core.Logic.{⊎-elim}
+use Rattle.bounded.specs.First.{firstIn, holdsBelow, first-is, none-holds, none-found, found, Scan, pass, hit, out}
 
 -- The least b above a and below n with c a b, else n.
 unfoldable pub partner : (ℕ → ℕ → Bool) → ℕ → ℕ → ℕ

@@ -2,7 +2,8 @@
 use Prim.Native.Nat.{ℕ}
 use mathlib.Core.Bool.{Bool, true, false, _&&_}
 use mathlib.Core.List.{List}
-use mathlib.Core.Path.{_≡_, refl, sym, _∙_, ap}
+use mathlib.Core.Path.{_≡_, refl, ap}
+use native.Mathlib.Omega.{arith}
 use lib.IntN.{ℤ}
 use Rattle.bounded.specs.Pair.{pairBelow, pairFirst, pairSecond}
 use Rattle.requests.specs.Buffers.{buffer, collides}
@@ -10,10 +11,8 @@ use Rattle.requests.specs.Table.{rows, request}
 use Rattle.requests.specs.declared.Buffer.{Buffer}
 use Rattle.requests.specs.declared.Request.{Request}
 use Rattle.units.specs.declared.Row.{Row}
-use native.Mathlib.Omega.{arith}
 use Rattle.greedy_rule.specs.Plan.{fixedCollide}
 use Rattle.greedy_planner.specs.FixedPair.{fixedPair}
-use Rattle.greedy_planner.specs.declared.fixed.Pair.{Pair}
 use Rattle.greedy_planner.specs.declared.fixed.Pair.the-variants.{Found, Nothing}
 
 -- What the code tests of two rows.

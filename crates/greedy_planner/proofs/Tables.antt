@@ -1,16 +1,16 @@
 -- The answer table in the end, by the answer.
-use Prim.Native.Nat.{ℕ, _≤_}
+use Prim.Native.Nat.{ℕ}
 use mathlib.Core.List.{List}
-use mathlib.Core.Path.{_≡_, refl, sym, _∙_, ap}
+use mathlib.Core.Path.{_≡_, ap}
 use borrow.Author.Tests.{eq-eqb, ne-eqb}
 use lib.IntN.{ℤ, pos}
 use lib.ListN.{length}
-use Rattle.bounded.specs.Replaced.{replaced, replaced-same}
+use Rattle.bounded.specs.Replaced.{replaced-same}
 use Rattle.units.specs.declared.Offset.{Offset}
 use Rattle.requests.specs.Table.{rows}
 use Rattle.greedy_rule.specs.Greedy.{greedyPlan}
-use Rattle.greedy_planner.specs.Arrays.{offsetIn, HoldsPlan, storedTable}
 use Rattle.greedy_rule.specs.Plan.{planOf, plannedTable}
+use Rattle.greedy_planner.specs.Arrays.{offsetIn, HoldsPlan, storedTable}
 
 module _ (g : ℕ) (t : List ℤ) (space : ℕ) (offsets : List ℤ) where
   -- A refusal leaves it as it was.

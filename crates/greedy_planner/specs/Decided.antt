@@ -4,8 +4,8 @@ use mathlib.Core.List.{List}
 use mathlib.Core.Path.{_≡_}
 use lib.IntN.{ℤ}
 use Rattle.answer.specs.Answer.{done}
-use Rattle.greedy_planner.specs.Arrays.{HoldsPlan}
 use Rattle.greedy_rule.specs.Plan.{planOf, fitOf}
+use Rattle.greedy_planner.specs.Arrays.{HoldsPlan}
 use Rattle.greedy_planner.specs.declared.Decision.{Decision}
 
 -- Past the checks 1 to 6.

@@ -1,6 +1,6 @@
 -- What the search for a colliding pair of fixed rows gives.
 use Prim.Native.Nat.{ℕ}
-use mathlib.Core.Bool.{Bool, true, false}
+use mathlib.Core.Bool.{true, false}
 use mathlib.Core.List.{List}
 use lib.IntN.{ℤ}
 use Rattle.bounded.specs.Pair.{pairBelow, pairFirst, pairSecond}

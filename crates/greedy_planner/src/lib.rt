@@ -4,39 +4,36 @@ mod order;
 mod place;
 mod top;
 
-ghost use mathlib.Core.Path.{_≡_};
 ghost use Prim.Native.Nat.{_≤_, _^_};
+ghost use mathlib.Core.Path.{_≡_};
 ghost use lib.ListN.{length};
-ghost use Rattle.answer.specs.Answer.{done as doneNumber};
-ghost use Rattle.requests.specs.Limits.{grid as gridOf};
+ghost use Rattle.requests.specs.Limits.{grid as gridOf, greatestRows};
 ghost use Rattle.requests.specs.Table.{rows as rowsOf};
-ghost use Rattle.greedy_planner.specs.Arrays.{GoodRows, HoldsPlan, SmallOffsets, storedTable};
-ghost use Rattle.greedy_rule.specs.Plan.{planOf, plannedTable, fitOf};
+ghost use Rattle.greedy_rule.specs.Plan.{planOf, plannedTable};
+ghost use Rattle.greedy_planner.specs.Arrays.{GoodRows, SmallOffsets, storedTable};
 ghost use Rattle.greedy_planner.specs.Decided.{Decided, Fitted};
-
 use answer::Answer;
 use fixed::Pair;
+use requests::GREATEST_ROWS;
 use units::Offset;
 
 // What the planner decides, before anything is stored: the answer, and where it is done each row's offset.
 pub struct Decision {
     pub answer: Answer,
-    pub offsets: [Offset; 256],
+    pub offsets: [Offset; GREATEST_ROWS],
 }
 
 // A refusal decides no offset.
 fn refused(answer: Answer) -> Decision
     ensures { λ r. ⌜ r .answer ≡ answer ⌝ }
 {
-    Decision {
-        answer,
-        offsets: [Offset(0); 256],
-    }
+    let offsets = place::no_offsets();
+    Decision { answer, offsets }
 }
 
 // Places the rows of a good table whose fixed rows do not collide, and compares the need with the space.
 fn fit(grid: u32, table: &[i32], space: u32) -> Decision
-    requires { ⌜ (rowsOf (now table) ≤ 256) × (grid ≤ 2 ^ 24) ⌝ }
+    requires { ⌜ (rowsOf (now table) ≤ greatestRows) × (grid ≤ 2 ^ 24) ⌝ }
     requires { ⌜ GoodRows grid (now table) ⌝ }
     ensures { λ r. ⌜ Fitted grid (now (table .entry)) space r ⌝ }
 {
@@ -69,8 +66,8 @@ pub(crate) fn decide(grid: u32, table: &[i32], space: u32, room: usize) -> Decis
 }
 
 // Stores the offsets of the table's rows in the first entries of the answer table.
-fn store(table: &[i32], found: [Offset; 256], offsets: &mut [i32])
-    requires { ⌜ (rowsOf (now table) ≤ 256) × (rowsOf (now table) ≤ length (now offsets)) ⌝ }
+fn store(table: &[i32], found: [Offset; GREATEST_ROWS], offsets: &mut [i32])
+    requires { ⌜ (rowsOf (now table) ≤ greatestRows) × (rowsOf (now table) ≤ length (now offsets)) ⌝ }
     requires { ⌜ SmallOffsets (now table) found ⌝ }
     ensures { λ _. ⌜ now (offsets .exit) ≡ storedTable (now (table .entry)) found (now (offsets .entry)) ⌝ }
 {

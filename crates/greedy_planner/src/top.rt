@@ -1,12 +1,13 @@
 // The need of a plan: the greatest end of a nonempty row.
-ghost use mathlib.Core.Path.{_≡_};
 ghost use Prim.Native.Nat.{_≤_, _<_, _^_, max};
+ghost use mathlib.Core.Path.{_≡_};
 ghost use Rattle.requests.specs.Buffers.{end, endOrZero};
+ghost use Rattle.requests.specs.Limits.{greatestRows};
 ghost use Rattle.requests.specs.Table.{rows as rowsOf};
-ghost use Rattle.greedy_planner.specs.Arrays.{HoldsPlan};
 ghost use Rattle.greedy_rule.specs.Plan.{greedyNeed};
-
+ghost use Rattle.greedy_planner.specs.Arrays.{HoldsPlan};
 use requests::Buffer;
+use requests::GREATEST_ROWS;
 use units::Offset;
 use units::Row;
 
@@ -26,8 +27,8 @@ pub(crate) fn raised(need: u64, buffer: Buffer) -> u64
 }
 
 // The need of the plan that the array holds.
-pub(crate) fn need_of(grid: u32, table: &[i32], offsets: [Offset; 256]) -> u64
-    requires { ⌜ rowsOf (now table) ≤ 256 ⌝ }
+pub(crate) fn need_of(grid: u32, table: &[i32], offsets: [Offset; GREATEST_ROWS]) -> u64
+    requires { ⌜ rowsOf (now table) ≤ greatestRows ⌝ }
     requires { ⌜ HoldsPlan grid (now table) offsets ⌝ }
     ensures { λ r. ⌜ r ≡ greedyNeed grid (now (table .entry)) ⌝ }
 {

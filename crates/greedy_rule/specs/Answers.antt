@@ -2,22 +2,20 @@
 -- least pair; 7 exactly if not 6 and the plan's need exceeds the space. All else is done, with the need.
 use Prim.Native.Nat.{ℕ, _<_, _≤_}
 use mathlib.Core.Bool.{Bool, true, false, _&&_}
-use mathlib.Core.List.{List, [], _∷_, _++_}
+use mathlib.Core.List.{List, _++_}
 use mathlib.Core.Logic.{_⊎_, inl, inr}
 use mathlib.Core.Path.{_≡_, refl, sym, _∙_, ap}
 use native.Mathlib.Omega.{arith}
-use borrow.Author.Tests.{ltb-true, ltb-false, lt-ltb, le-ltb}
-use lib.Dec.{ltb}
+use borrow.Author.Tests.{ltb-false, lt-ltb, le-ltb}
 use lib.IntN.{ℤ}
-use Rattle.answer.specs.declared.Answer.{Answer}
 use Rattle.answer.specs.Answer.{doneWith, refusedPair, refusedNeed, fixedRowsCollide, needExceedsSpace}
-use Rattle.bounded.specs.Boolean.{both, both-hold, contrary, lt-or-le, holds-or-not}
+use Rattle.bounded.specs.Boolean.{both, both-hold, contrary, lt-or-le}
 use Rattle.bounded.specs.Causes.{NoneHolds, AllRefuse, firstCause, follows, follows-more, passed, refused-stands}
-use Rattle.bounded.specs.Pair.{pairBelow, pairFirst, pairSecond, IsLeastPair, no-pair, none-paired, least-pair}
+use Rattle.bounded.specs.Pair.{pairBelow, pairFirst, pairSecond, no-pair, none-paired, least-pair}
 use Rattle.requests.specs.Buffers.{bufferAt}
 use Rattle.requests.specs.CheckLaws.{Checked, numberOf, none-refuses, checked}
 use Rattle.requests.specs.Checks.{tableCauses, checkOf}
-use Rattle.requests.specs.Colliding.{Colliding, collides-says, collides-of, not-colliding}
+use Rattle.requests.specs.Colliding.{Colliding, collides-says, collides-of}
 use Rattle.requests.specs.Table.{rows, fixed, fixedOffset}
 use Rattle.greedy_rule.specs.NoCollision.{FixedRowsApart}
 use Rattle.greedy_rule.specs.Plan.{fixedCollide, greedyNeed, fixedCauses, needCauses, planCauses, fitOf, planOf}

@@ -1,14 +1,14 @@
 -- Law: in the greedy plan an unfixed empty row has offset 0 and changes no other row's offset.
 use Prim.Native.Nat.{ℕ, _<_}
-use mathlib.Core.Bool.{Bool, true, false}
+use mathlib.Core.Bool.{false}
 use mathlib.Core.List.{List, _∷_, _++_}
-use mathlib.Core.Path.{_≡_, refl, _∙_, ap}
+use mathlib.Core.Path.{_≡_, _∙_, ap}
 use lib.IntN.{ℤ}
 use Rattle.requests.specs.Table.{rows, request, fixed}
 use Rattle.placement.specs.EmptyRows.{empty-lowest, left-out}
 use Rattle.placement.specs.Placing.{offsetFor, place}
 use Rattle.greedy_rule.specs.Greedy.{fixedFirst, greedyOrder, greedyPlan}
-use Rattle.greedy_rule.specs.PlanByPosition.{stage, plan-takes}
+use Rattle.greedy_rule.specs.PlanByPosition.{plan-takes}
 
 module _ (g : ℕ) (t : List ℤ) (r : ℕ) (e : request t r .size ≡ 0) where
   -- It has offset 0.

@@ -1,24 +1,23 @@
 -- Law: in the greedy plan each row keeps the offset that it took at its place: a fixed row its own, any other the lowest at which it collides with no row
 -- of a lower place; those have their offsets of the plan then already.
 use Prim.Native.Nat.{ℕ, zero, suc, _<_, _≤_}
-use mathlib.Core.Bool.{Bool, true, false, _||_}
+use mathlib.Core.Bool.{true, false}
 use mathlib.Core.List.{List}
 use mathlib.Core.Logic.{_⊎_, inl, inr, ⊎-elim}
 use mathlib.Core.Path.{_≡_, refl, sym, _∙_, ap, subst}
 use native.Mathlib.Omega.{arith}
-use borrow.Author.Tests.{eqb-true, eqb-false, eq-eqb, ne-eqb, lt-ltb, le-ltb, ltb-true}
-use lib.Dec.{ltb, eqb}
+use borrow.Author.Tests.{lt-ltb, le-ltb, ltb-true}
+use lib.Dec.{ltb}
 use lib.IntN.{ℤ}
-use lib.ListN.{length}
 use Rattle.bounded.specs.Boolean.{lt-or-le, same-or-not}
 use Rattle.requests.specs.Buffers.{bufferAt}
 use Rattle.requests.specs.Colliding.{Colliding}
 use Rattle.requests.specs.Table.{rows, fixed, fixedOffset}
 use Rattle.placement.specs.Placing.{Placing, put, lowest, offsetFor, placing, place}
 use Rattle.placement.specs.Put.{put-there, put-elsewhere, placed-there, placed-elsewhere}
+use Rattle.placement.specs.LowestFree.{LowestFree, Blocker, lowest-free}
 use Rattle.greedy_rule.specs.Greedy.{fixedFirst, greedyOrder, greedyPlan}
 use Rattle.greedy_rule.specs.GreedyOrder.{position, rowAt, whole-length, position-listed, listed-position}
-use Rattle.placement.specs.LowestFree.{LowestFree, Blocker, lowest-free}
 
 module _ (g : ℕ) (t : List ℤ) where
   -- What is placed once the rows of the first k places are.

@@ -1,16 +1,16 @@
 -- Law: "An empty row takes 0 and hinders nobody": its lowest offset is 0, and leaving it out of an order changes no other row's offset.
-use Prim.Native.Nat.{ℕ, zero, suc, _+_, _<_, _≤_}
+use Prim.Native.Nat.{ℕ, zero, suc, _+_, _≤_}
 use mathlib.Core.Bool.{Bool, true, false, not, _&&_, and-false}
 use mathlib.Core.List.{List, _∷_, _++_}
-use mathlib.Core.Logic.{_⊎_, inl, inr, ⊎-elim}
+use mathlib.Core.Logic.{_⊎_, inl, inr}
 use mathlib.Core.Path.{_≡_, refl, sym, _∙_, ap, ap₂, subst}
-use native.Mathlib.Nat.{add-zero, add-suc}
+use native.Mathlib.Nat.{add-zero}
 use native.Mathlib.Omega.{arith}
 use lib.IntN.{ℤ}
 use lib.ListN.{length, getD, length-append, List·getD-append}
 use lib.Seq.{getD-append-add, getD-append-seam}
 use Rattle.bounded.specs.Boolean.{same-or-not}
-use Rattle.bounded.specs.First.{IsLeast, one-least, holds-same, none-found}
+use Rattle.bounded.specs.First.{one-least, holds-same, none-found}
 use Rattle.requests.specs.Buffers.{bufferAt, collides}
 use Rattle.requests.specs.Colliding.{apart, collides-either}
 use Rattle.requests.specs.Rounding.{occupied-empty}

@@ -1,16 +1,16 @@
 -- Law: a row that takes the lowest offset is free of the rows already placed, and at no lower offset is it.
-use Prim.Native.Nat.{ℕ, _+_, _<_, _≤_}
+use Prim.Native.Nat.{ℕ, _<_, _≤_}
 use mathlib.Core.Bool.{Bool, true, false, not, _&&_}
 use mathlib.Core.List.{List}
-use mathlib.Core.Path.{_≡_, refl, sym, _∙_}
+use mathlib.Core.Path.{_≡_, refl}
 use native.Mathlib.Omega.{arith}
 use borrow.Author.Tests.{not-true, not-false}
 use lib.IntN.{ℤ}
 use Rattle.bounded.specs.Boolean.{both, both-hold, contrary}
-use Rattle.bounded.specs.First.{firstIn, holdsBelow, IsLeast, least-is, none-holds, none-found, found, some-found}
-use Rattle.bounded.specs.Greatest.{greatest, greatest-bound}
+use Rattle.bounded.specs.First.{firstIn, IsLeast, least-is, none-holds, none-found, found}
+use Rattle.bounded.specs.Greatest.{greatest-bound}
 use Rattle.requests.specs.Buffers.{bufferAt, collides, end, endOrZero}
-use Rattle.requests.specs.Colliding.{Colliding, collides-says, collides-of, apart, not-colliding}
+use Rattle.requests.specs.Colliding.{Colliding, collides-says, collides-of, apart}
 use Rattle.requests.specs.Needs.{end-counts}
 use Rattle.requests.specs.Table.{rows}
 use Rattle.placement.specs.Placing.{Placing, blocks, free, top, lowest}

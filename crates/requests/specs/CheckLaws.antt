@@ -1,15 +1,15 @@
 -- What the checks 1 to 5 say: they pass exactly when the tables' lengths, the space and every row are as they must be.
 use Prim.Native.Nat.{ℕ, _<_, _≤_, _%_}
-use mathlib.Core.Bool.{Bool, true, false, not}
-use mathlib.Core.List.{List, [], _∷_, _++_}
+use mathlib.Core.Bool.{true, not}
+use mathlib.Core.List.{List}
 use mathlib.Core.Path.{_≡_, refl, sym, _∙_, ap}
 use native.Mathlib.Omega.{arith}
-use borrow.Author.Tests.{ltb-false, le-ltb, lt-ltb, eqb-true, eq-eqb, not-true, not-false}
+use borrow.Author.Tests.{ltb-false, le-ltb, lt-ltb, eqb-true, eq-eqb, not-false}
 use lib.IntN.{ℤ}
 use lib.ListN.{length}
 use Rattle.answer.specs.declared.Answer.{Answer}
 use Rattle.answer.specs.Answer.{refusedAt, doneWith, badRow as badRowNumber}
-use Rattle.bounded.specs.Causes.{NoneHolds, AllRefuse, firstCause, follows, follows-more, passed, refused-stands}
+use Rattle.bounded.specs.Causes.{NoneHolds, AllRefuse, firstCause, follows-more, passed, refused-stands}
 use Rattle.bounded.specs.First.{firstIn, holdsBelow, none-holds, none-found}
 use Rattle.requests.specs.Limits.{greatestRows, greatestSpace}
 use Rattle.requests.specs.Table.{rows, request, good, badRow}

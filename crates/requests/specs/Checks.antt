@@ -1,7 +1,7 @@
 -- The checks 1 to 5 of document 01, "The desk's order of checks": every planner and the inspector begin with them.
 -- `room` is the length of the lent answer table or proposal.
 use Prim.Native.Nat.{ℕ}
-use mathlib.Core.Bool.{Bool, not}
+use mathlib.Core.Bool.{not}
 use mathlib.Core.List.{List, [], _∷_, _++_}
 use lib.Dec.{ltb}
 use lib.IntN.{ℤ}

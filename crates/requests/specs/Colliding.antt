@@ -1,10 +1,10 @@
 -- What it means that two buffers collide, and that two spans share a byte, in plain orders of numbers.
-use Prim.Native.Nat.{ℕ, _+_, _<_, _≤_, max}
+use Prim.Native.Nat.{ℕ, _<_, _≤_, max}
 use mathlib.Core.Bool.{Bool, true, false, _&&_}
-use mathlib.Core.Path.{_≡_, refl, sym, _∙_}
+use mathlib.Core.Path.{_≡_, refl}
 use native.Mathlib.Omega.{arith}
 use borrow.Author.Tests.{ltb-true, leb-true, lt-ltb, le-leb}
-use lib.Dec.{leb, ltb}
+use lib.Dec.{leb}
 use Rattle.bounded.specs.Boolean.{both, both-hold, contrary, same-test}
 use Rattle.requests.specs.Buffers.{end, nonempty, liveTogether, endsAfter, shareByte, collides}
 use Rattle.requests.specs.declared.Buffer.{Buffer}

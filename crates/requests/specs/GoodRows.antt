@@ -1,6 +1,6 @@
 -- Good rows in signed numbers, as document 01 writes them: the definition, which reads a negative word as a number above every limit, says the same.
-use Prim.Native.Nat.{ℕ, zero, suc, _*_, _/_, _%_, _<_, _≤_}
-use mathlib.Core.Bool.{Bool, true, false, not, _&&_, _||_, Bool·not-not}
+use Prim.Native.Nat.{ℕ, _*_, _/_, _%_, _<_, _≤_}
+use mathlib.Core.Bool.{true, not, _&&_, _||_, Bool·not-not}
 use mathlib.Core.List.{List}
 use mathlib.Core.Logic.{_⊎_, inl, inr}
 use mathlib.Core.Path.{_≡_, refl, sym, _∙_, ap, subst}
@@ -9,7 +9,7 @@ use native.Mathlib.Omega.{arith}
 use borrow.Author.Tests.{leb-true, le-leb, eqb-true, eq-eqb}
 use lib.Dec.{T, leb, eqb, leb→le}
 use lib.IntN.{ℤ, pos, negsuc}
-use lib.Signed.{_≤ℤ_, leZ, leZ-yes}
+use lib.Signed.{_≤ℤ_, leZ-yes}
 use Rattle.bounded.specs.Boolean.{both, both-hold, either}
 use Rattle.words.specs.Words.{natural, isMinusOne}
 use Rattle.requests.specs.Limits.{greatestSpace, lastMoment}

@@ -1,6 +1,6 @@
 -- The occupied size is the least multiple of the grid that holds the size.
-use Prim.Native.Nat.{ℕ, zero, suc, _+_, _-_, _*_, _/_, _%_, _<_, _≤_}
-use mathlib.Core.Path.{_≡_, refl}
+use Prim.Native.Nat.{ℕ, zero, suc, _+_, _-_, _/_, _%_, _<_, _≤_}
+use mathlib.Core.Path.{_≡_}
 use native.Mathlib.Nat.{div-add-mod', mod-lt, mul-mod-left, mul-zero, zero-mul, div-eq-of-lt, div-mul-le-self}
 use native.Mathlib.Omega.{arith}
 use Rattle.requests.specs.Buffers.{occupied}

@@ -2,7 +2,7 @@
 -- All is a total function of the table and the row's number. A negative word reads as a number above every limit (`words`), so a test of an upper
 -- limit also refuses it; `GoodRows` says the rule again in signed numbers, as document 01 has it, and proves that it is the same.
 use Prim.Native.Nat.{ℕ, _+_, _*_, _/_, _%_}
-use mathlib.Core.Bool.{Bool, true, false, not, _&&_, _||_}
+use mathlib.Core.Bool.{Bool, not, _&&_, _||_}
 use mathlib.Core.List.{List}
 use lib.Dec.{leb, eqb}
 use lib.IntN.{ℤ}

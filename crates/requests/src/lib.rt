@@ -1,15 +1,13 @@
 // The request table (document 01, "Requests and the greedy rule"): its rows, which rows are good, and when two rows collide; and the checks
 // 1 to 5, with which every planner and the inspector begin.
+ghost use Prim.Native.Nat.{_+_, _<_};
 ghost use mathlib.Core.Path.{_≡_};
-ghost use Prim.Native.Nat.{ℕ, _+_, _<_};
-ghost use lib.Dec.{ltb};
 ghost use lib.ListN.{length};
 ghost use Rattle.bounded.specs.First.{firstIn};
 ghost use Rattle.words.specs.Words.{wordAt};
 ghost use Rattle.requests.specs.Table.{rows as rowsOf, word as wordOf, request, onGrid, good, badRow};
 ghost use Rattle.requests.specs.Buffers.{occupied, buffer, liveTogether, endsAfter, collides};
 ghost use Rattle.requests.specs.Checks.{checkOf, shapeOf};
-
 use answer::Answer;
 use units::Moment;
 use units::Offset;

@@ -1,27 +1,22 @@
+-- `greedy_planner::decide` meets its contract.
 use Prim.Native.Nat.{ℕ, _<_}
 use mathlib.Core.Bool.{true}
 use mathlib.Core.List.{List}
 use mathlib.Core.Path.{_≡_, sym, _∙_, ap, ap₂}
 use native.Mathlib.Omega.{arith}
 use denote.Ref.{now}
+use borrow.Author.Needs.{needs}
 use lib.IntN.{ℤ}
 use Rattle.answer.specs.Answer.{refusedPair, fixedRowsCollide}
 use Rattle.bounded.specs.Pair.{pairBelow, pairFirst, pairSecond, least-pair}
 use Rattle.requests.specs.CheckLaws.{Checked, checked, numberOf}
+use Rattle.requests.specs.Limits.{greatestRows}
 use Rattle.requests.specs.Table.{rows}
 use Rattle.greedy_rule.specs.Plan.{fixedCollide}
 use Rattle.greedy_rule.specs.Answers.{check-stands, pair-refused, need-decides}
 use Rattle.greedy_planner.proofs.FixedPairs.{pair-says, nothing-says}
-use borrow.Author.Needs.{needs}
 use Rattle.greedy_planner.proofs.decide.Statement.{statement}
 use Rattle.greedy_planner.proofs.decide.Tie as tie
-use Rattle.greedy_planner.proofs.decide.Reads as reads
-use Rattle.greedy_planner.proofs.decide.Lts as lts
-use Rattle.answer.proofs.Answer.refused_pair.Reads as refused-pair-reads
-use Rattle.greedy_planner.proofs.fit.Reads as fit-reads
-use Rattle.greedy_planner.proofs.fixed.first_pair.Reads as first-pair-reads
-use Rattle.greedy_planner.proofs.refused.Reads as refused-reads
-use Rattle.requests.proofs.check.Reads as check-reads
 
 abbrev Grid : tie.After-a → ℕ
 Grid c = c .before .before .before .before .before .before .args .grid
@@ -38,61 +33,49 @@ pair : (c : tie.After-a) → (pairBelow (fixedCollide (Grid c) (Table c)) (rows 
 pair c = pair-says _ _ _ _ (sym (c .a .given .1) ∙ c .before .before .first-pair .ensures)
 
 -- it lies below the number of rows, which is small
-small : (c : tie.After-a) → (c .a .given .0 .0 .0 < 256) × (c .a .given .0 .1 .0 .0 < 256)
+small : (c : tie.After-a) → (c .a .given .0 .0 .0 < greatestRows) × (c .a .given .0 .1 .0 .0 < greatestRows)
 small c =
     let p = pair c in
     let l = least-pair (fixedCollide (Grid c) (Table c)) (rows (Table c)) (p .0) in
     let k = checks (c .before .before .before) .shaped .few in
     omega (arith, l .rising, l .within, p .1, p .2)
 
--- src/lib.rt:57:9
 check-requires : tie.Need-check-requires
 check-requires c κs = search needs
 
--- src/lib.rt:59:9
 refused-requires : tie.Need-refused-requires
 refused-requires c κs = search needs
 
--- src/lib.rt:59:9
 returns : tie.Need-returns
 returns c =
     let e = c .before .before .before .check .ensures in
     let a = c .refused .ensures ∙ e in
     record { answer = a ∙ check-stands _ _ _ _ (λ z. c .before .if1 .taken (ap numberOf e ∙ z)); plan = λ z. absurd (c .before .if1 .taken (sym (ap numberOf (c .refused .ensures)) ∙ z)) }
 
--- src/lib.rt:61:11
 first-pair-requires : tie.Need-first-pair-requires
 first-pair-requires c κs = search needs
 
--- src/lib.rt:62:21
 enum-known-a : tie.Need-enum-known-a
 enum-known-a c = search needs
 
--- src/lib.rt:64:13
 cast-refused-pair : tie.Need-cast-refused-pair
 cast-refused-pair c = omega (arith, small (c .before .before))
 
--- src/lib.rt:65:13
 cast-refused-pair-2 : tie.Need-cast-refused-pair-2
 cast-refused-pair-2 c = omega (arith, small (c .before .before .before))
 
--- src/lib.rt:62:38
 refused-pair-requires : tie.Need-refused-pair-requires
 refused-pair-requires c κs = search needs
 
--- src/lib.rt:62:30
 refused-requires-2 : tie.Need-refused-requires-2
 refused-requires-2 c κs = search needs
 
--- src/lib.rt:67:26
 enum-told : tie.Need-enum-told
 enum-told c = search needs
 
--- src/lib.rt:67:26
 fit-requires : tie.Need-fit-requires
 fit-requires c κs = let k = checks (c .before .before .before) in ((k .shaped .few, c .before .before .before .before .before .before .pre), record { each = k .goodRows })
 
--- src/lib.rt:53:1
 returns-2 : tie.Need-returns-2
 returns-2 c =
     let p = pair (c .before .before .before .before .before) in
@@ -102,7 +85,6 @@ returns-2 c =
       plan = λ z. absurd (let y = ap numberOf a in omega arith);
     }
 
--- src/lib.rt:53:1
 returns-3 : tie.Need-returns-3
 returns-3 c =
     let k = checks (c .before .before .before .before) in

@@ -1,52 +1,36 @@
-use mathlib.Core.Path.{_≡_, sym, _∙_, ap}
+-- `greedy_planner::fit` meets its contract.
+use mathlib.Core.Path.{_∙_, ap}
 use native.Mathlib.Omega.{arith}
+use borrow.Author.Needs.{needs}
 use Rattle.requests.specs.CheckLaws.{numberOf}
 use Rattle.greedy_rule.specs.Answers.{fit-refused, fit-done}
-use Rattle.greedy_planner.specs.Decided.{Fitted}
-use borrow.Author.Needs.{needs}
 use Rattle.greedy_planner.proofs.fit.Statement.{statement}
 use Rattle.greedy_planner.proofs.fit.Tie as tie
-use Rattle.greedy_planner.proofs.fit.Reads as reads
-use Rattle.greedy_planner.proofs.fit.Lts as lts
-use Rattle.answer.proofs.Answer.done.Reads as done-reads
-use Rattle.answer.proofs.Answer.refused_need.Reads as refused-need-reads
-use Rattle.greedy_planner.proofs.order.order_rows.Reads as order-rows-reads
-use Rattle.greedy_planner.proofs.place.place_rows.Reads as place-rows-reads
-use Rattle.greedy_planner.proofs.refused.Reads as refused-reads
-use Rattle.greedy_planner.proofs.top.need_of.Reads as need-of-reads
 
--- src/lib.rt:43:50
 order-rows-requires : tie.Need-order-rows-requires
 order-rows-requires c κs = search needs
 
--- src/lib.rt:43:9
 place-rows-requires : tie.Need-place-rows-requires
 place-rows-requires c κs = search needs
 
--- src/lib.rt:44:9
 need-of-requires : tie.Need-need-of-requires
 need-of-requires c κs = search needs
 
--- src/lib.rt:46:24
 refused-need-requires : tie.Need-refused-need-requires
 refused-need-requires c κs = search needs
 
--- src/lib.rt:46:9
 refused-requires : tie.Need-refused-requires
 refused-requires c κs = search needs
 
--- src/lib.rt:46:9
 returns : tie.Need-returns
 returns c =
     let e = c .before .before .before .need-of .ensures in
     let a = c .refused .ensures ∙ c .before .refused-need .ensures in
     record { answer = a ∙ rw e (fit-refused _ _ _ (rw e at (c .before .before .if1 .taken))); plan = λ z. absurd (let y = ap numberOf a in omega arith) }
 
--- src/lib.rt:48:9
 done-requires : tie.Need-done-requires
 done-requires c κs = search needs
 
--- src/lib.rt:38:1
 returns-2 : tie.Need-returns-2
 returns-2 c =
     let e = c .before .before .need-of .ensures in

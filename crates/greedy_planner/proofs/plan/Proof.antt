@@ -1,7 +1,8 @@
-use Prim.Native.Nat.{ℕ, _<_}
-use mathlib.Core.Path.{_≡_, sym, _∙_, ap}
+-- `greedy_planner::plan` meets its contract.
+use mathlib.Core.Path.{sym, _∙_, ap}
 use native.Mathlib.Omega.{arith}
 use denote.Ref.{now}
+use borrow.Author.Needs.{needs}
 use lib.ListN.{length}
 use Rattle.requests.specs.CheckLaws.{numberOf}
 use Rattle.requests.specs.Limits.{grid}
@@ -9,13 +10,8 @@ use Rattle.greedy_rule.specs.Answers.{Done, done-says}
 use Rattle.greedy_rule.specs.PlanFits.{plan-fits}
 use Rattle.greedy_planner.specs.Decided.{Decided}
 use Rattle.greedy_planner.proofs.Tables.{table-kept, table-planned}
-use borrow.Author.Needs.{needs}
 use Rattle.greedy_planner.proofs.plan.Statement.{statement}
 use Rattle.greedy_planner.proofs.plan.Tie as tie
-use Rattle.greedy_planner.proofs.plan.Reads as reads
-use Rattle.greedy_planner.proofs.plan.Lts as lts
-use Rattle.greedy_planner.proofs.decide.Reads as decide-reads
-use Rattle.greedy_planner.proofs.store.Reads as store-reads
 
 -- where the answer is done, what it says
 decided : (c : tie.After-decide) → Decided grid (now (c .before .args .requests)) (c .before .args .space) (length (now (c .before .args .offsets))) (c .decide .result)
@@ -24,28 +20,23 @@ decided c = c .decide .ensures
 finished : (c : tie.Else1) → Done grid (now (c .before .before .before .before .args .requests)) (c .before .before .before .before .args .space) (length (now (c .before .before .before .before .args .offsets)))
 finished c = done-says _ _ _ _ (sym (ap numberOf (decided (c .before .before .before) .answer)) ∙ c .if1 .left)
 
--- src/lib.rt:91:9
 decide-requires : tie.Need-decide-requires
 decide-requires c κs = search needs
 
--- src/lib.rt:94:9
 returns : tie.Need-returns
 returns c =
     let d = decided (c .before .before .before) in
     (d .answer, table-kept grid _ _ _ (λ z. c .if1 .taken (ap numberOf (d .answer) ∙ z)))
 
--- src/lib.rt:97:5
 store-requires : tie.Need-store-requires
 store-requires c κs =
     let d = finished (c .before .before) in
     let h = decided (c .before .before .before .before .before) .plan (c .before .before .if1 .left) in
     ((d .checks .shaped .few, d .checks .shaped .roomy), record { each = λ r l. omega (arith, h .each r l, plan-fits grid _ _ _ (omega arith) d r l) })
 
--- src/lib.rt:87:1
 same-length : tie.Need-same-length
 same-length c = c .before .store .kept .1 .1 .0
 
--- src/lib.rt:87:1
 returns-2 : tie.Need-returns-2
 returns-2 c =
     let d = decided (c .before .before .before .before .before .before .before) in

@@ -1,57 +1,42 @@
-use Prim.Native.Nat.{ℕ, _<_, _≤_}
-use mathlib.Core.Path.{_≡_, sym, _∙_, ap}
-use denote.Ref.{now}
+-- `requests::check` meets its contract.
+use mathlib.Core.Path.{sym, _∙_, ap}
 use native.Mathlib.Omega.{arith}
-use Rattle.requests.specs.CheckLaws.{Shaped, numberOf, shape-passed, shape-refused, row-refused, row-passed}
-use Rattle.requests.specs.Table.{rows}
+use denote.Ref.{now}
 use borrow.Author.Needs.{needs}
+use Rattle.requests.specs.CheckLaws.{Shaped, numberOf, shape-passed, shape-refused, row-refused, row-passed}
 use Rattle.requests.proofs.check.Statement.{statement}
 use Rattle.requests.proofs.check.Tie as tie
-use Rattle.requests.proofs.check.Reads as reads
-use Rattle.requests.proofs.check.Lts as lts
-use Rattle.answer.proofs.Answer.done.Reads as done-reads
-use Rattle.answer.proofs.Answer.refused_at.Reads as refused-at-reads
-use Rattle.requests.proofs.check_shape.Reads as check-shape-reads
-use Rattle.requests.proofs.lowest_bad_row.Reads as lowest-bad-row-reads
 
 -- past the checks 1 to 4, what they say
 shaped : (c : tie.Else1) → Shaped (now (c .before .before .before .args .table)) (c .before .before .before .args .space) (c .before .before .before .args .room)
 shaped c = shape-passed _ _ _ (sym (ap numberOf (c .before .before .check-shape .ensures)) ∙ c .if1 .left)
 
--- src/lib.rt:190:9
 check-shape-requires : tie.Need-check-shape-requires
 check-shape-requires c κs = search needs
 
--- src/lib.rt:192:9
 returns : tie.Need-returns
 returns c =
     let e = c .before .before .check-shape .ensures in
     e ∙ shape-refused _ _ _ (c .before .before .before .args .grid) (λ z. c .if1 .taken (ap numberOf e ∙ z))
 
--- src/lib.rt:194:9
 lowest-bad-row-requires : tie.Need-lowest-bad-row-requires
 lowest-bad-row-requires c κs = search needs
 
--- src/lib.rt:196:52
 cast-refused-at : tie.Need-cast-refused-at
 cast-refused-at c = omega (arith, shaped (c .before .before .before .before) .few)
 
--- src/lib.rt:196:9
 refused-at-requires : tie.Need-refused-at-requires
 refused-at-requires c κs = search needs
 
--- src/lib.rt:196:9
 returns-2 : tie.Need-returns-2
 returns-2 c =
     let e = c .before .before .before .before .lowest-bad-row .ensures in
     let s = shaped (c .before .before .before .before .before) in
     c .refused-at .ensures ∙ rw e (row-refused _ _ _ _ s (rw e at (c .before .before .if2 .taken)))
 
--- src/lib.rt:198:5
 done-requires : tie.Need-done-requires
 done-requires c κs = search needs
 
--- src/lib.rt:187:1
 returns-3 : tie.Need-returns-3
 returns-3 c =
     let e = c .before .before .before .lowest-bad-row .ensures in

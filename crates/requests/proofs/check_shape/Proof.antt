@@ -1,56 +1,42 @@
 -- `requests::check_shape` meets its contract: each way out is the first cause that holds.
 use borrow.Author.Tests.{lt-ltb, le-ltb, eq-eqb, ne-eqb}
-use Rattle.requests.specs.Checks.{shapeOf}
-use Rattle.bounded.specs.Causes.{firstCause}
 use borrow.Author.Needs.{needs}
+use Rattle.bounded.specs.Causes.{firstCause}
+use Rattle.requests.specs.Checks.{shapeOf}
 use Rattle.requests.proofs.check_shape.Statement.{statement}
 use Rattle.requests.proofs.check_shape.Tie as tie
-use Rattle.requests.proofs.check_shape.Reads as reads
-use Rattle.requests.proofs.check_shape.Lts as lts
-use Rattle.answer.proofs.Answer.done.Reads as done-reads
-use Rattle.answer.proofs.Answer.refused.Reads as refused-reads
 
--- src/lib.rt:169:9
 refused-requires : tie.Need-refused-requires
 refused-requires c κs = search needs
 
--- src/lib.rt:169:9
 returns : tie.Need-returns
 unfolding shapeOf
 returns c = rw (ne-eqb _ _ (c .before .if1 .taken), firstCause) (c .refused .ensures)
 
--- src/lib.rt:173:9
 refused-requires-2 : tie.Need-refused-requires-2
 refused-requires-2 c κs = search needs
 
--- src/lib.rt:173:9
 returns-2 : tie.Need-returns-2
 unfolding shapeOf
 returns-2 c = let p = c .before in rw (eq-eqb _ _ (p .before .if1 .left), firstCause, lt-ltb _ _ (p .if2 .taken), firstCause) (c .refused2 .ensures)
 
--- src/lib.rt:176:9
 refused-requires-3 : tie.Need-refused-requires-3
 refused-requires-3 c κs = search needs
 
--- src/lib.rt:176:9
 returns-3 : tie.Need-returns-3
 unfolding shapeOf
 returns-3 c = let p = c .before in rw (eq-eqb _ _ (p .before .before .if1 .left), firstCause, le-ltb _ _ (p .before .if2 .left), firstCause, lt-ltb _ _ (p .if3 .taken), firstCause) (c .refused3 .ensures)
 
--- src/lib.rt:179:9
 refused-requires-4 : tie.Need-refused-requires-4
 refused-requires-4 c κs = search needs
 
--- src/lib.rt:179:9
 returns-4 : tie.Need-returns-4
 unfolding shapeOf
 returns-4 c = let p = c .before in rw (eq-eqb _ _ (p .before .before .before .if1 .left), firstCause, le-ltb _ _ (p .before .before .if2 .left), firstCause, le-ltb _ _ (p .before .if3 .left), firstCause, lt-ltb _ _ (p .if4 .taken), firstCause) (c .refused4 .ensures)
 
--- src/lib.rt:181:5
 done-requires : tie.Need-done-requires
 done-requires c κs = search needs
 
--- src/lib.rt:165:1
 returns-5 : tie.Need-returns-5
 unfolding shapeOf
 returns-5 c = let p = c .before in rw (eq-eqb _ _ (p .before .before .before .if1 .left), firstCause, le-ltb _ _ (p .before .before .if2 .left), firstCause, le-ltb _ _ (p .before .if3 .left), firstCause, le-ltb _ _ (p .if4 .left), firstCause) (c .done .ensures)

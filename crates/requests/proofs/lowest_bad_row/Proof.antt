@@ -1,13 +1,10 @@
+-- `requests::lowest_bad_row` meets its contract.
 use Prim.Native.Nat.{_-_}
 use native.Mathlib.Omega.{arith}
 use Rattle.bounded.specs.First.{Scan, scan, pass, hit, out}
 use Rattle.requests.specs.Table.{badRow}
 use Rattle.requests.proofs.lowest_bad_row.Statement.{statement}
 use Rattle.requests.proofs.lowest_bad_row.Tie as tie
-use Rattle.requests.proofs.lowest_bad_row.Reads as reads
-use Rattle.requests.proofs.lowest_bad_row.Lts as lts
-use Rattle.requests.proofs.is_good.Reads as is-good-reads
-use Rattle.requests.proofs.request_at.Reads as request-at-reads
 
 abbrev Inv-loop : tie.InvT-loop
 Inv-loop grid table n i₀ i = Scan (badRow grid table) 0 n i
@@ -15,35 +12,27 @@ Inv-loop grid table n i₀ i = Scan (badRow grid table) 0 n i
 abbrev μ-loop : tie.MeasureT-loop
 μ-loop grid table n i₀ i = n - i
 
--- src/lib.rt:117:5
 loop-holds : tie.Need-loop-holds Inv-loop μ-loop
 loop-holds c = scan _ _ _
 
--- src/lib.rt:118:27
 request-at-requires : tie.Need-request-at-requires Inv-loop μ-loop
 request-at-requires c κs = tt
 
--- src/lib.rt:118:13
 is-good-requires : tie.Need-is-good-requires Inv-loop μ-loop
 is-good-requires c κs = tt
 
--- src/lib.rt:119:13
 returns : tie.Need-returns Inv-loop μ-loop
 returns c = let h = c .before .before .before in hit (h .before .loop .inv) (h .loop-test .taken) (cc)
 
--- src/lib.rt:121:9
 add-i : tie.Need-add-i Inv-loop μ-loop
 add-i c = omega arith
 
--- src/lib.rt:117:5
 loop-less : tie.Need-loop-less Inv-loop μ-loop
 loop-less c = omega arith
 
--- src/lib.rt:117:5
 loop-again : tie.Need-loop-again Inv-loop μ-loop
 loop-again c = let h = c .before .before .before in pass (h .before .loop .inv) (h .loop-test .taken) (cc)
 
--- src/lib.rt:112:1
 returns-2 : tie.Need-returns-2 Inv-loop μ-loop
 returns-2 c = out (c .before .loop .inv) (c .loop-test .left)
 

@@ -1,36 +1,29 @@
+-- `requests::occupied_size` meets its contract.
 use Prim.Native.Nat.{_+_, _-_}
 use mathlib.Core.Path.{refl}
-use native.Mathlib.Nat.{div-mul-le-self, mul-zero, div-zero}
+use native.Mathlib.Nat.{div-mul-le-self, mul-zero}
 use native.Mathlib.Omega.{arith}
-use Rattle.requests.specs.Buffers.{occupied}
 use borrow.Author.Needs.{needs}
+use Rattle.requests.specs.Buffers.{occupied}
 use Rattle.requests.proofs.occupied_size.Statement.{statement}
 use Rattle.requests.proofs.occupied_size.Tie as tie
-use Rattle.requests.proofs.occupied_size.Reads as reads
-use Rattle.requests.proofs.occupied_size.Lts as lts
 
--- src/lib.rt:86:9
 returns : tie.Need-returns
 unfolding occupied
 returns c = rw (c .if1 .taken, mul-zero)
 
--- src/lib.rt:88:21
 sub-result : tie.Need-sub-result
 sub-result c = search needs
 
--- src/lib.rt:88:6
 add-result : tie.Need-add-result
 add-result c = search needs
 
--- src/lib.rt:88:5
 div-result : tie.Need-div-result
 div-result c = search needs
 
--- src/lib.rt:88:5
 mul-result : tie.Need-mul-result
 mul-result c = let a = c .before .args in omega (arith, div-mul-le-self (a .size + (a .grid - 1)) (a .grid))
 
--- src/lib.rt:82:1
 returns-2 : tie.Need-returns-2
 unfolding occupied
 returns-2 c = refl

@@ -1,17 +1,14 @@
+-- `greedy_planner::fixed::first_pair` meets its contract.
 use Prim.Native.Nat.{_≤_, _<_, _-_}
 use mathlib.Core.Path.{_≡_, refl, _∙_, sym}
 use native.Mathlib.Omega.{arith}
 use Rattle.bounded.specs.First.{scan, pass}
 use Rattle.bounded.specs.Pair.{Outer, Inner, inner-out, inner-hit, outer-out}
 use Rattle.greedy_rule.specs.Plan.{fixedCollide}
-use Rattle.greedy_planner.specs.declared.fixed.Pair.{Pair}
-use Rattle.greedy_planner.specs.declared.fixed.Pair.the-variants.{Found, Nothing}
+use Rattle.greedy_planner.specs.declared.fixed.Pair.the-variants.{Nothing}
 use Rattle.greedy_planner.proofs.FixedPairs.{pair-found, none-found}
 use Rattle.greedy_planner.proofs.fixed.first_pair.Statement.{statement}
 use Rattle.greedy_planner.proofs.fixed.first_pair.Tie as tie
-use Rattle.greedy_planner.proofs.fixed.first_pair.Reads as reads
-use Rattle.greedy_planner.proofs.fixed.first_pair.Lts as lts
-use Rattle.greedy_planner.proofs.fixed.fixed_collide.Reads as fixed-collide-reads
 
 abbrev Inv-loop : tie.InvT-loop
 Inv-loop grid table n pair₀ a b₀ pair b = Inner (fixedCollide grid table) n a b × (pair ≡ Nothing) × (b ≤ n) × (a < b)
@@ -25,51 +22,39 @@ Inv-scan grid table n pair₀ a₀ pair a = Outer (fixedCollide grid table) n a 
 abbrev μ-scan : tie.MeasureT-scan
 μ-scan grid table n pair₀ a₀ pair a = n - a
 
--- src/fixed.rt:36:5
 scan-holds : tie.Need-scan-holds Inv-loop μ-loop Inv-scan μ-scan
 scan-holds c = (scan _ _ _, refl)
 
--- src/fixed.rt:37:21
 add-b : tie.Need-add-b Inv-loop μ-loop Inv-scan μ-scan
 add-b c = omega arith
 
--- src/fixed.rt:38:9
 loop-holds : tie.Need-loop-holds Inv-loop μ-loop Inv-scan μ-scan
 loop-holds c = ((c .before .scan .inv .0, scan _ _ _), c .before .scan .inv .1, omega arith, omega arith)
 
--- src/fixed.rt:39:16
 fixed-collide-requires : tie.Need-fixed-collide-requires Inv-loop μ-loop Inv-scan μ-scan
 fixed-collide-requires c κs = tt
 
--- src/fixed.rt:43:13
 add-b-2 : tie.Need-add-b-2 Inv-loop μ-loop Inv-scan μ-scan
 add-b-2 c = omega arith
 
--- src/fixed.rt:38:9
 loop-less : tie.Need-loop-less Inv-loop μ-loop Inv-scan μ-scan
 loop-less c = omega arith
 
--- src/fixed.rt:38:9
 loop-again : tie.Need-loop-again Inv-loop μ-loop Inv-scan μ-scan
 loop-again c = let i = c .before .before .before .loop .inv in ((i .0 .0, pass (i .0 .1) (c .before .before .loop-test .taken) (sym (c .before .fixed-collide .ensures) ∙ c .if1 .left)), i .1, omega arith, omega arith)
 
--- src/fixed.rt:45:9
 add-a : tie.Need-add-a Inv-loop μ-loop Inv-scan μ-scan
 add-a c = omega arith
 
--- src/fixed.rt:36:5
 scan-less : tie.Need-scan-less Inv-loop μ-loop Inv-scan μ-scan
 scan-less c = omega arith
 
--- src/fixed.rt:36:5
 scan-again : tie.Need-scan-again Inv-loop μ-loop Inv-scan μ-scan
 scan-again c = let i = c .before .loop .inv in (inner-out _ _ _ _ (omega arith) (c .loop-test .left) (i .0), i .1)
 
--- src/fixed.rt:30:1
 returns : tie.Need-returns Inv-loop μ-loop Inv-scan μ-scan
 returns c = let i = c .before .scan .inv in i .1 ∙ none-found _ _ (outer-out _ _ _ (c .scan-test .left) (i .0))
 
--- src/fixed.rt:30:1
 returns-2 : tie.Need-returns-2 Inv-loop μ-loop Inv-scan μ-scan
 returns-2 c = pair-found _ _ _ _ (inner-hit _ _ _ _ (omega arith) (c .before .before .loop-test .taken) (sym (c .before .fixed-collide .ensures) ∙ c .if1 .taken) (c .before .before .before .loop .inv .0))
 

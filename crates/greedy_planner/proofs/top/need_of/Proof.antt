@@ -1,17 +1,10 @@
-use Rattle.requests.specs.Buffers.{bufferAt}
-use Rattle.requests.specs.Rounding.{occupied-most}
-use Rattle.greedy_rule.specs.Greedy.{greedyPlan}
-use Rattle.greedy_planner.proofs.Needing.{Needing, needing-start, needing-more, needing-done, row-buffer}
-use Prim.Native.Nat.{_-_, _≤_}
-use mathlib.Core.Path.{_≡_, sym, _∙_, ap}
+-- `greedy_planner::top::need_of` meets its contract.
+use Prim.Native.Nat.{_-_}
 use native.Mathlib.Omega.{arith}
+use Rattle.requests.specs.Rounding.{occupied-most}
+use Rattle.greedy_planner.proofs.Needing.{Needing, needing-start, needing-more, needing-done, row-buffer}
 use Rattle.greedy_planner.proofs.top.need_of.Statement.{statement}
 use Rattle.greedy_planner.proofs.top.need_of.Tie as tie
-use Rattle.greedy_planner.proofs.top.need_of.Reads as reads
-use Rattle.greedy_planner.proofs.top.need_of.Lts as lts
-use Rattle.greedy_planner.proofs.top.raised.Reads as raised-reads
-use Rattle.requests.proofs.buffer_at.Reads as buffer-at-reads
-use Rattle.requests.proofs.request_at.Reads as request-at-reads
 
 abbrev Inv-loop : tie.InvT-loop
 Inv-loop grid table offsets n need₀ row₀ need row = Needing grid table need row
@@ -19,27 +12,21 @@ Inv-loop grid table offsets n need₀ row₀ need row = Needing grid table need 
 abbrev μ-loop : tie.MeasureT-loop
 μ-loop grid table offsets n need₀ row₀ need row = n - row
 
--- src/top.rt:37:5
 loop-holds : tie.Need-loop-holds Inv-loop μ-loop
 loop-holds c = needing-start _ _
 
--- src/top.rt:38:13
 request-at-requires : tie.Need-request-at-requires Inv-loop μ-loop
 request-at-requires c κs = tt
 
--- src/top.rt:39:22
 mul-offset : tie.Need-mul-offset Inv-loop μ-loop
 mul-offset c = omega arith
 
--- src/top.rt:39:22
 array-copy-out-offset : tie.Need-array-copy-out-offset Inv-loop μ-loop
 array-copy-out-offset c = omega arith
 
--- src/top.rt:40:29
 buffer-at-requires : tie.Need-buffer-at-requires Inv-loop μ-loop
 buffer-at-requires c κs = tt
 
--- src/top.rt:40:9
 raised-requires : tie.Need-raised-requires Inv-loop μ-loop
 raised-requires c κs =
     let u = c .before .before .before .before .before in
@@ -49,15 +36,12 @@ raised-requires c κs =
     let l = occupied-most (u .args .grid) (c .before .before .request-at .result .size) in
     rw b (omega arith)
 
--- src/top.rt:41:9
 add-row : tie.Need-add-row Inv-loop μ-loop
 add-row c = omega arith
 
--- src/top.rt:37:5
 loop-less : tie.Need-loop-less Inv-loop μ-loop
 loop-less c = omega arith
 
--- src/top.rt:37:5
 loop-again : tie.Need-loop-again Inv-loop μ-loop
 loop-again c =
     let u = c .before .before .before .before .before .before in
@@ -65,7 +49,6 @@ loop-again c =
     let l = c .before .before .before .before .loop-test .taken in
     needing-more (c .before .before .before .before .before .loop .inv) l (row-buffer (u .args .grid) _ i (c .before .before .before .request-at .ensures) (u .pre .1 .each i l) (c .before .buffer-at .ensures)) (c .raised .ensures)
 
--- src/top.rt:29:1
 returns : tie.Need-returns Inv-loop μ-loop
 returns c = needing-done (c .before .loop .inv) (c .loop-test .left)
 

@@ -1,27 +1,20 @@
-use Prim.Native.Nat.{ℕ, _+_, max}
-use mathlib.Core.Path.{_≡_}
+-- `greedy_planner::top::raised` meets its contract.
 use native.Mathlib.Omega.{arith}
-use Rattle.requests.specs.Needs.{end-counts, empty-counts}
 use borrow.Author.Tests.{le-ltb}
 use borrow.Author.Needs.{needs}
+use Rattle.requests.specs.Needs.{end-counts, empty-counts}
 use Rattle.greedy_planner.proofs.top.raised.Statement.{statement}
 use Rattle.greedy_planner.proofs.top.raised.Tie as tie
-use Rattle.greedy_planner.proofs.top.raised.Reads as reads
-use Rattle.greedy_planner.proofs.top.raised.Lts as lts
 
--- src/top.rt:18:16
 add-over : tie.Need-add-over
 add-over c = search needs
 
--- src/top.rt:21:13
 returns : tie.Need-returns
 returns c = omega (arith, end-counts (c .before .before .before .before .args .buffer) (c .before .if1 .taken))
 
--- src/top.rt:23:9
 returns-2 : tie.Need-returns-2
 returns-2 c = omega (arith, end-counts (c .before .before .before .before .args .buffer) (c .before .if1 .taken))
 
--- src/top.rt:14:1
 returns-3 : tie.Need-returns-3
 returns-3 c = omega (arith, empty-counts (c .before .before .before .args .buffer) (le-ltb _ _ (c .if1 .left)))
 
