@@ -6,3 +6,4 @@ pub mod NoCollision
 pub mod EmptyRows
 pub mod Answers
 pub mod PlanFits
+pub mod DonePlans

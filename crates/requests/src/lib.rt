@@ -8,6 +8,7 @@ ghost use Rattle.words.specs.Words.{wordAt};
 ghost use Rattle.requests.specs.Table.{rows as rowsOf, word as wordOf, request, onGrid, good, badRow};
 ghost use Rattle.requests.specs.Buffers.{occupied, buffer, liveTogether, endsAfter, collides};
 ghost use Rattle.requests.specs.Checks.{checkOf, shapeOf};
+
 use answer::Answer;
 use units::Moment;
 use units::Offset;

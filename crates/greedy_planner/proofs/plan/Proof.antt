@@ -7,9 +7,10 @@ use lib.ListN.{length}
 use Rattle.requests.specs.CheckLaws.{numberOf}
 use Rattle.requests.specs.Limits.{grid}
 use Rattle.greedy_rule.specs.Answers.{Done, done-says}
+use Rattle.greedy_rule.specs.DonePlans.{refusal-keeps}
 use Rattle.greedy_rule.specs.PlanFits.{plan-fits}
 use Rattle.greedy_planner.specs.Decided.{Decided}
-use Rattle.greedy_planner.proofs.Tables.{table-kept, table-planned}
+use Rattle.greedy_planner.proofs.Tables.{table-planned}
 use Rattle.greedy_planner.proofs.plan.Statement.{statement}
 use Rattle.greedy_planner.proofs.plan.Tie as tie
 
@@ -26,7 +27,7 @@ decide-requires c κs = search needs
 returns : tie.Need-returns
 returns c =
     let d = decided (c .before .before .before) in
-    (d .answer, table-kept grid _ _ _ (λ z. c .if1 .taken (ap numberOf (d .answer) ∙ z)))
+    (d .answer, sym (refusal-keeps grid _ _ _ (λ z. c .if1 .taken (ap numberOf (d .answer) ∙ z))))
 
 store-requires : tie.Need-store-requires
 store-requires c κs =

@@ -1,0 +1,111 @@
+-- Document 01's bench sheets, those marked *: one table, one statement. Each sheet has what the definitions give and what is wanted, an answer and
+-- the words of the table or state after it (offsets; lifetimes; head, temp, tail and usable). The statement is that the two columns are equal, and
+-- the checker computes it. A planner's sheet lends a table of one entry more than rows, filled with 7, so that what stays is seen too.
+use Prim.Native.Nat.{ℕ}
+use mathlib.Core.List.{List, [], _∷_, _++_, map}
+use mathlib.Core.Path.{_≡_, refl}
+use lib.IntN.{ℤ, pos, negsuc}
+use lib.ListN.{length}
+use Rattle.answer.specs.Answer.{doneWith, refusedPair, refusedNeed, fixedRowsCollide, needExceedsSpace}
+use Rattle.answer.specs.declared.Answer.{Answer}
+use Rattle.bounded.specs.Count.{one, count}
+use Rattle.bounded.specs.First.{firstFrom, firstIn, holdsBelow}
+use Rattle.bounded.specs.Greatest.{greatest}
+use Rattle.bounded.specs.InOrder.{listFrom, rank, atRank, inOrder}
+use Rattle.bounded.specs.Pair.{partner, hasPartner, pairBelow, pairFirst, pairSecond}
+use Rattle.bounded.specs.Replaced.{replaced}
+use Rattle.words.specs.Words.{natural, isMinusOne}
+use Rattle.requests.specs.Buffers.{occupied, liveTogether, shareByte, collides, endOrZero, need}
+use Rattle.requests.specs.Limits.{grid}
+use Rattle.requests.specs.Table.{request, good}
+use Rattle.placement.specs.Placing.{put, free, top, lowest, offsetFor, placing, place}
+use Rattle.greedy_rule.specs.Greedy.{largerFirst, fixedRows, greedyOrder, greedyPlan}
+use Rattle.greedy_rule.specs.Plan.{fixedCollide, greedyNeed, planOf, plannedTable}
+
+-- An answer, and the words after it.
+pub record Result : Type 0 where
+  pub answer : Answer
+  pub words : List ℤ
+
+-- What the definitions give, and what is wanted.
+pub record Sheet : Type 0 where
+  pub given : Result
+  pub wanted : Result
+
+-- ---- the planner's sheets
+
+-- A row: size, first and last moment, fixed offset.
+abbrev row : ℕ → ℕ → ℕ → ℤ → List ℤ
+row size first last offset = pos size ∷ pos first ∷ pos last ∷ offset ∷ []
+
+-- Placed by us.
+abbrev free-row : ℤ
+free-row = negsuc 0
+
+-- A table planned in a space, over a lent table, and the answer and words that are wanted.
+abbrev planned : List ℤ → ℕ → List ℤ → Answer → List ℤ → Sheet
+planned t space lent answer words =
+    record {
+      given = record { answer = planOf grid t space (length lent); words = plannedTable grid t space lent };
+      wanted = record { answer = answer; words = words };
+    }
+
+-- Lent tables.
+abbrev one-entry : List ℤ
+one-entry = pos 7 ∷ []
+
+abbrev two-entries : List ℤ
+two-entries = pos 7 ∷ one-entry
+
+abbrev three-entries : List ℤ
+three-entries = pos 7 ∷ two-entries
+
+abbrev four-entries : List ℤ
+four-entries = pos 7 ∷ three-entries
+
+-- Sheet A.
+abbrev sheetA : List ℤ
+sheetA = row 100 0 1 free-row ++ (row 50 0 2 free-row ++ row 40 2 3 free-row)
+
+-- A fixed row that lives through, and one of another size beside it.
+abbrev beside : ℕ → List ℤ
+beside size = row 64 0 3 (pos 64) ++ row size 1 2 free-row
+
+-- Two rows of 32, the second alive from one moment to another.
+abbrev two : ℕ → ℕ → ℕ → List ℤ
+two last first′ last′ = row 32 0 last free-row ++ row 32 first′ last′ free-row
+
+-- Two fixed rows that never live together, and a row that lives with both.
+abbrev three : List ℤ
+three = row 64 0 0 (pos 0) ++ (row 32 1 1 (pos 0) ++ row 16 0 1 free-row)
+
+-- Two fixed rows that collide.
+abbrev clash : List ℤ
+clash = row 20 0 0 (pos 0) ++ row 8 0 0 (pos 16)
+
+abbrev planner-sheets : List Sheet
+planner-sheets =
+    planned sheetA 1024 four-entries (doneWith 176) (pos 0 ∷ pos 112 ∷ pos 0 ∷ one-entry)
+    ∷ planned sheetA 176 four-entries (doneWith 176) (pos 0 ∷ pos 112 ∷ pos 0 ∷ one-entry)
+    ∷ planned sheetA 175 four-entries (refusedNeed needExceedsSpace 176) four-entries
+    ∷ planned (beside 64) 1024 three-entries (doneWith 128) (pos 64 ∷ pos 0 ∷ one-entry)
+    ∷ planned (beside 65) 1024 three-entries (doneWith 208) (pos 64 ∷ pos 128 ∷ one-entry)
+    ∷ planned (two 0 0 0) 1024 three-entries (doneWith 64) (pos 0 ∷ pos 32 ∷ one-entry)
+    ∷ planned (two 1 1 2) 1024 three-entries (doneWith 64) (pos 0 ∷ pos 32 ∷ one-entry)
+    ∷ planned (two 1 2 3) 1024 three-entries (doneWith 32) (pos 0 ∷ pos 0 ∷ one-entry)
+    ∷ planned three 1024 four-entries (doneWith 80) (pos 0 ∷ pos 0 ∷ pos 64 ∷ one-entry)
+    ∷ planned clash 1024 three-entries (refusedPair fixedRowsCollide 0 1) three-entries
+    ∷ planned [] 1024 one-entry (doneWith 0) one-entry
+    ∷ planned (row 0 0 0 (pos 48)) 1024 two-entries (doneWith 0) (pos 48 ∷ one-entry)
+    ∷ []
+
+-- ---- the table
+
+-- Every starred sheet.
+abbrev pub sheets : List Sheet
+sheets = planner-sheets
+
+-- The two columns are equal.
+pub sheets-hold : map (λ (s : Sheet). s .given) sheets ≡ map (λ (s : Sheet). s .wanted) sheets
+unfolding one count firstFrom firstIn holdsBelow greatest listFrom rank atRank inOrder partner hasPartner pairBelow pairFirst pairSecond replaced natural isMinusOne occupied liveTogether shareByte collides endOrZero need request good put free top lowest offsetFor placing place largerFirst fixedRows greedyOrder greedyPlan fixedCollide greedyNeed planOf plannedTable
+sheets-hold = refl
