@@ -2,7 +2,6 @@
 ghost use mathlib.Core.Path.{_≡_};
 ghost use Rattle.greedy_rule.specs.Plan.{fixedCollide};
 ghost use Rattle.greedy_planner.specs.FixedPair.{fixedPair};
-
 use units::Row;
 
 // The pair that a search found, if there is one.

@@ -12,7 +12,6 @@ ghost use Rattle.requests.specs.Table.{rows as rowsOf};
 ghost use Rattle.greedy_rule.specs.Plan.{planOf, plannedTable};
 ghost use Rattle.greedy_planner.specs.Arrays.{GoodRows, SmallOffsets, storedTable};
 ghost use Rattle.greedy_planner.specs.Decided.{Decided, Fitted};
-
 use answer::Answer;
 use fixed::Pair;
 use requests::GREATEST_ROWS;

@@ -6,7 +6,6 @@ ghost use Rattle.requests.specs.Limits.{greatestRows};
 ghost use Rattle.requests.specs.Table.{rows as rowsOf};
 ghost use Rattle.greedy_rule.specs.Plan.{greedyNeed};
 ghost use Rattle.greedy_planner.specs.Arrays.{HoldsPlan};
-
 use requests::Buffer;
 use requests::GREATEST_ROWS;
 use units::Offset;

@@ -98,13 +98,13 @@ module _ (g : ℕ) (t : List ℤ) where
           → refusedPair fixedRowsCollide (pairFirst (fixedCollide g t) (rows t)) (pairSecond (fixedCollide g t) (rows t)) ≡ planOf g t space room
       unfolding planOf
       pair-refused c e =
-          sym (follows-more (tableCauses g t space room) (fixedCauses g t ++ needCauses g t space) (doneWith (greedyNeed g t)) (none-refuses t space room g c) ∙ rw (e, firstCause))
+          sym (follows-more (tableCauses g t space room) (fixedCauses g t ++ needCauses g t space) (doneWith (greedyNeed g t)) (none-refuses t room g space c) ∙ rw (e, firstCause))
 
       -- and where there are none, the need decides.
       pub need-decides : Checked g t space room → pairBelow (fixedCollide g t) (rows t) ≡ false → fitOf g t space ≡ planOf g t space room
       unfolding planOf fitOf
       need-decides c e =
-          sym (follows-more (tableCauses g t space room) (fixedCauses g t ++ needCauses g t space) (doneWith (greedyNeed g t)) (none-refuses t space room g c) ∙ rw (e, firstCause))
+          sym (follows-more (tableCauses g t space room) (fixedCauses g t ++ needCauses g t space) (doneWith (greedyNeed g t)) (none-refuses t room g space c) ∙ rw (e, firstCause))
 
       -- What the answer may be.
       pub data Outcome : Type 0 where
@@ -140,7 +140,7 @@ module _ (g : ℕ) (t : List ℤ) where
           let n = passed numberOf (planCauses g t space room) (doneWith (greedyNeed g t)) plan-refuses e .0 in
           let five : NoneHolds (tableCauses g t space room) = (n .0, (n .1 .0, (n .1 .1 .0, (n .1 .1 .1 .0, (n .1 .1 .1 .1 .0, tt))))) in
           record {
-            checks = checked t space room g (ap numberOf (follows (tableCauses g t space room) (doneWith 0) five));
+            checks = checked t room g space (ap numberOf (follows (tableCauses g t space room) (doneWith 0) five));
             apart = no-clash (n .1 .1 .1 .1 .1 .0);
             fits = ltb-false _ _ (n .1 .1 .1 .1 .1 .1 .0);
           }

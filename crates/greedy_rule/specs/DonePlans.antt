@@ -3,7 +3,7 @@ use Prim.Native.Nat.{ℕ, _<_, _≤_}
 use mathlib.Core.Bool.{true, false}
 use mathlib.Core.List.{List}
 use mathlib.Core.Logic.{_⊎_}
-use mathlib.Core.Path.{_≡_, refl, sym, _∙_, ap, subst}
+use mathlib.Core.Path.{_≡_, _∙_, ap}
 use borrow.Author.Tests.{eq-eqb, ne-eqb}
 use lib.IntN.{ℤ, pos}
 use lib.ListN.{length, getD}
@@ -13,11 +13,12 @@ use Rattle.requests.specs.Buffers.{bufferAt, end}
 use Rattle.requests.specs.Colliding.{Colliding}
 use Rattle.requests.specs.Needs.{EndsThere, need-bounds, need-is-one}
 use Rattle.requests.specs.Table.{rows, fixed, fixedOffset}
-use Rattle.greedy_rule.specs.Answers.{Done, done-says, done-of}
+use Rattle.greedy_rule.specs.Answers.{done-says, done-of}
 use Rattle.greedy_rule.specs.Greedy.{greedyPlan}
 use Rattle.greedy_rule.specs.NoCollision.{no-rows-collide}
 use Rattle.greedy_rule.specs.Plan.{greedyNeed, planOf, plannedTable}
-use Rattle.greedy_rule.specs.PlanByPosition.{TakesLowest, fixed-rows-stay, rest-takes-lowest}
+use Rattle.greedy_rule.specs.LowestPlace.{TakesLowest, rest-takes-lowest}
+use Rattle.greedy_rule.specs.PlanByPosition.{fixed-rows-stay}
 
 -- Of a table, a space and a lent answer table for which the planner is done.
 pub record DonePlan (g : ℕ) (t : List ℤ) (space : ℕ) (lent : List ℤ) : Type 0 where

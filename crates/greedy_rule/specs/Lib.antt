@@ -2,6 +2,7 @@ pub mod Greedy
 pub mod Plan
 pub mod GreedyOrder
 pub mod PlanByPosition
+pub mod LowestPlace
 pub mod NoCollision
 pub mod EmptyRows
 pub mod Answers

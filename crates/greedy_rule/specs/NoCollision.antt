@@ -11,8 +11,9 @@ use Rattle.requests.specs.Buffers.{bufferAt}
 use Rattle.requests.specs.Colliding.{Colliding}
 use Rattle.requests.specs.Table.{rows, fixed, fixedOffset}
 use Rattle.greedy_rule.specs.Greedy.{greedyPlan}
-use Rattle.greedy_rule.specs.GreedyOrder.{position, rowAt, position-listed, fixed-before-rest}
-use Rattle.greedy_rule.specs.PlanByPosition.{fixed-rows-stay, rest-takes-lowest}
+use Rattle.greedy_rule.specs.GreedyOrder.{position, rowAt, position-listed, fixed-before-rest, before-says}
+use Rattle.greedy_rule.specs.PlanByPosition.{fixed-rows-stay}
+use Rattle.greedy_rule.specs.LowestPlace.{rest-takes-lowest}
 
 module _ (g : ℕ) (t : List ℤ) where
   -- No two fixed rows collide.
@@ -36,7 +37,7 @@ module _ (g : ℕ) (t : List ℤ) where
   earlier-apart f a b l m p = go (fixed t b) refl (fixed t a) refl
     where
       go : (y : Bool) → fixed t b ≡ y → (x : Bool) → fixed t a ≡ x → Colliding (bufferAt g t b (greedyPlan g t b)) (bufferAt g t a (greedyPlan g t a)) → ⊥
-      go false e x d c = rest-takes-lowest g t b m e .clear a l p c
+      go false e x d c = rest-takes-lowest g t b m e .clear a l (before-says g t a b l m e p) c
       go true e true d c =
           fixed-apart f b a m l (λ q. let z = ap (position g t) q in omega arith) e d
           (subst (λ (o : ℕ). Colliding (bufferAt g t b o) (bufferAt g t a (fixedOffset t a))) (fixed-rows-stay g t b m e)

@@ -1,21 +1,18 @@
 -- Law: in the greedy plan each row keeps the offset that it took at its place: a fixed row its own, any other the lowest at which it collides with no row
 -- of a lower place; those have their offsets of the plan then already.
 use Prim.Native.Nat.{ℕ, zero, suc, _<_, _≤_}
-use mathlib.Core.Bool.{true, false}
+use mathlib.Core.Bool.{true}
 use mathlib.Core.List.{List}
 use mathlib.Core.Logic.{_⊎_, inl, inr, ⊎-elim}
-use mathlib.Core.Path.{_≡_, refl, sym, _∙_, ap, subst}
+use mathlib.Core.Path.{_≡_, refl, sym, _∙_, ap}
 use native.Mathlib.Omega.{arith}
-use borrow.Author.Tests.{lt-ltb, le-ltb, ltb-true}
+use borrow.Author.Tests.{lt-ltb, le-ltb}
 use lib.Dec.{ltb}
 use lib.IntN.{ℤ}
 use Rattle.bounded.specs.Boolean.{lt-or-le, same-or-not}
-use Rattle.requests.specs.Buffers.{bufferAt}
-use Rattle.requests.specs.Colliding.{Colliding}
 use Rattle.requests.specs.Table.{rows, fixed, fixedOffset}
 use Rattle.placement.specs.Placing.{Placing, put, lowest, offsetFor, placing, place}
 use Rattle.placement.specs.Put.{put-there, put-elsewhere, placed-there, placed-elsewhere}
-use Rattle.placement.specs.LowestFree.{LowestFree, Blocker, lowest-free}
 use Rattle.greedy_rule.specs.Greedy.{fixedFirst, greedyOrder, greedyPlan}
 use Rattle.greedy_rule.specs.GreedyOrder.{position, rowAt, whole-length, position-listed, listed-position}
 
@@ -85,46 +82,3 @@ module _ (g : ℕ) (t : List ℤ) where
   pub fixed-rows-stay : (r : ℕ) → r < rows t → fixed t r ≡ true → greedyPlan g t r ≡ fixedOffset t r
   unfolding offsetFor
   fixed-rows-stay r l e = plan-takes r l ∙ rw (e, offsetFor)
-
-  -- A row of a lower place that collides, at its offset of the plan, with row r at offset o.
-  pub record EarlierBlocker (r o : ℕ) : Type 0 where
-    pub row : ℕ
-    pub within : row < rows t
-    pub earlier : position g t row < position g t r
-    pub collides : Colliding (bufferAt g t r o) (bufferAt g t row (greedyPlan g t row))
-
-  -- "Each of these takes the lowest offset, 0 or above, at which it collides with no row already placed": no row of a lower place collides with it,
-  -- and at every lower offset some would.
-  pub record TakesLowest (r : ℕ) : Type 0 where
-    pub clear : (b : ℕ) → b < rows t → position g t b < position g t r → Colliding (bufferAt g t r (greedyPlan g t r)) (bufferAt g t b (greedyPlan g t b)) → ⊥
-    pub blocked : (q : ℕ) → q < greedyPlan g t r → EarlierBlocker r q
-
-  -- So it is in the greedy plan, for every row that is not fixed.
-  pub rest-takes-lowest : (r : ℕ) → r < rows t → fixed t r ≡ false → TakesLowest r
-  unfolding offsetFor
-  rest-takes-lowest r l e = record {
-    clear = λ b m p c. free .clear b m (come b m p) (subst (λ (o : ℕ). Colliding (bufferAt g t r (greedyPlan g t r)) (bufferAt g t b o)) (sym (stage-is-plan b m _ within p)) c);
-    blocked = λ q h. earlier q (free .blocked q h);
-  }
-    where
-      within : position g t r ≤ rows t
-      within = omega (arith, position-listed g t r l .0)
-
-      took : greedyPlan g t r ≡ lowest g t (stage (position g t r)) r
-      took = plan-takes r l ∙ rw (e, offsetFor)
-
-      free : LowestFree g t (stage (position g t r)) r (greedyPlan g t r)
-      free = rw took (lowest-free g t (stage (position g t r)) r)
-
-      come : (b : ℕ) → b < rows t → position g t b < position g t r → stage (position g t r) .placed b ≡ true
-      come b m p = placed-from b m (position g t r) within ∙ lt-ltb _ _ p
-
-      earlier : (q : ℕ) → Blocker g t (stage (position g t r)) r q → EarlierBlocker r q
-      earlier q x =
-          let p : position g t (x .row) < position g t r = ltb-true _ _ (sym (placed-from (x .row) (x .within) (position g t r) within) ∙ x .placed) in
-          record {
-            row = x .row;
-            within = x .within;
-            earlier = p;
-            collides = subst (λ (o : ℕ). Colliding (bufferAt g t r q) (bufferAt g t (x .row) o)) (stage-is-plan (x .row) (x .within) _ within p) (x .collides);
-          }

@@ -25,6 +25,6 @@ unfolding greedyNeed
 plan-fits g t space room h d r l = go (lt-or-le 0 (bufferAt g t r (greedyPlan g t r) .length)) (fixed t r) refl
   where
     go : (0 < bufferAt g t r (greedyPlan g t r) .length) ⊎ (bufferAt g t r (greedyPlan g t r) .length ≤ 0) → (b : Bool) → fixed t r ≡ b → greedyPlan g t r ≤ greatestSpace
-    go (inl n) b e = omega (arith, need-bounds g t (greedyPlan g t) r l n, d .fits, d .checks .shaped .allowed)
+    go (inl n) b e = omega (arith, need-bounds g t (greedyPlan g t) r l n, d .fits, d .checks .allowed)
     go (inr n) true e = omega (arith, fixed-rows-stay g t r l e, good-offset g (request t r) (d .checks .goodRows r l) e)
     go (inr n) false e = omega (arith, empty-at-zero g t r (omega (arith, occupied-holds g (request t r .size) h)) l e)

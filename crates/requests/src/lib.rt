@@ -1,14 +1,14 @@
 // The request table (document 01, "Requests and the greedy rule"): its rows, which rows are good, and when two rows collide; and the checks
 // 1 to 5, with which every planner and the inspector begin.
-ghost use Prim.Native.Nat.{_+_, _<_};
+ghost use Prim.Native.Nat.{_+_, _<_, _≤_};
 ghost use mathlib.Core.Path.{_≡_};
 ghost use lib.ListN.{length};
 ghost use Rattle.bounded.specs.First.{firstIn};
 ghost use Rattle.words.specs.Words.{wordAt};
+ghost use Rattle.requests.specs.Limits.{greatestRows};
 ghost use Rattle.requests.specs.Table.{rows as rowsOf, word as wordOf, request, onGrid, good, badRow};
 ghost use Rattle.requests.specs.Buffers.{occupied, buffer, liveTogether, endsAfter, collides};
-ghost use Rattle.requests.specs.Checks.{checkOf, shapeOf};
-
+ghost use Rattle.requests.specs.Checks.{shapeOf, contentOf, checkOf};
 use answer::Answer;
 use units::Moment;
 use units::Offset;
@@ -162,9 +162,9 @@ pub fn collide(a: Buffer, b: Buffer) -> bool
     nonempty & (live_together(a, b) & (ends_after(a, b) & ends_after(b, a)))
 }
 
-// The checks 1 to 4: the tables' lengths and the space.
-fn check_shape(table: &[i32], space: u32, room: usize) -> Answer
-    ensures { λ r. ⌜ r ≡ shapeOf (now (table .entry)) space room ⌝ }
+// The checks 1 to 3: the tables' lengths.
+fn check_shape(table: &[i32], room: usize) -> Answer
+    ensures { λ r. ⌜ r ≡ shapeOf (now (table .entry)) room ⌝ }
 {
     if table.len() % 4 != 0 {
         return Answer::refused(Answer::NOT_WHOLE_ROWS);
@@ -176,8 +176,22 @@ fn check_shape(table: &[i32], space: u32, room: usize) -> Answer
     if room < n {
         return Answer::refused(Answer::TABLE_TOO_SHORT);
     }
-    if GREATEST_SPACE < space {
+    Answer::done(0)
+}
+
+// The checks 4 and 5: the space and the rows.
+fn check_content(grid: u32, table: &[i32], space: u32) -> Answer
+    requires { ⌜ rowsOf (now table) ≤ greatestRows ⌝ }
+    ensures { λ r. ⌜ r ≡ contentOf grid (now (table .entry)) space ⌝ }
+{
+    let bad = lowest_bad_row(grid, table);
+    let flawed = bad.0 < table.len() / 4;
+    let too_large = GREATEST_SPACE < space;
+    if too_large {
         return Answer::refused(Answer::SPACE_TOO_LARGE);
+    }
+    if flawed {
+        return Answer::refused_at(Answer::BAD_ROW, bad.0 as u32);
     }
     Answer::done(0)
 }
@@ -186,13 +200,9 @@ fn check_shape(table: &[i32], space: u32, room: usize) -> Answer
 pub fn check(grid: u32, table: &[i32], space: u32, room: usize) -> Answer
     ensures { λ r. ⌜ r ≡ checkOf grid (now (table .entry)) space room ⌝ }
 {
-    let shape = check_shape(table, space, room);
+    let shape = check_shape(table, room);
     if shape.number != Answer::DONE {
         return shape;
     }
-    let bad = lowest_bad_row(grid, table);
-    if bad.0 < table.len() / 4 {
-        return Answer::refused_at(Answer::BAD_ROW, bad.0 as u32);
-    }
-    Answer::done(0)
+    check_content(grid, table, space)
 }

@@ -1,8 +1,8 @@
 -- `requests::check_shape` meets its contract: each way out is the first cause that holds.
 use borrow.Author.Tests.{lt-ltb, le-ltb, eq-eqb, ne-eqb}
-use borrow.Author.Needs.{needs}
-use Rattle.bounded.specs.Causes.{firstCause}
 use Rattle.requests.specs.Checks.{shapeOf}
+use Rattle.bounded.specs.Causes.{firstCause}
+use borrow.Author.Needs.{needs}
 use Rattle.requests.proofs.check_shape.Statement.{statement}
 use Rattle.requests.proofs.check_shape.Tie as tie
 
@@ -27,19 +27,12 @@ returns-3 : tie.Need-returns-3
 unfolding shapeOf
 returns-3 c = let p = c .before in rw (eq-eqb _ _ (p .before .before .if1 .left), firstCause, le-ltb _ _ (p .before .if2 .left), firstCause, lt-ltb _ _ (p .if3 .taken), firstCause) (c .refused3 .ensures)
 
-refused-requires-4 : tie.Need-refused-requires-4
-refused-requires-4 c κs = search needs
-
-returns-4 : tie.Need-returns-4
-unfolding shapeOf
-returns-4 c = let p = c .before in rw (eq-eqb _ _ (p .before .before .before .if1 .left), firstCause, le-ltb _ _ (p .before .before .if2 .left), firstCause, le-ltb _ _ (p .before .if3 .left), firstCause, lt-ltb _ _ (p .if4 .taken), firstCause) (c .refused4 .ensures)
-
 done-requires : tie.Need-done-requires
 done-requires c κs = search needs
 
-returns-5 : tie.Need-returns-5
+returns-4 : tie.Need-returns-4
 unfolding shapeOf
-returns-5 c = let p = c .before in rw (eq-eqb _ _ (p .before .before .before .if1 .left), firstCause, le-ltb _ _ (p .before .before .if2 .left), firstCause, le-ltb _ _ (p .before .if3 .left), firstCause, le-ltb _ _ (p .if4 .left), firstCause) (c .done .ensures)
+returns-4 c = let p = c .before in rw (eq-eqb _ _ (p .before .before .if1 .left), firstCause, le-ltb _ _ (p .before .if2 .left), firstCause, le-ltb _ _ (p .if3 .left), firstCause) (c .done .ensures)
 
 pub check-shape-spec : {M : Type 1} → statement M
 check-shape-spec =
@@ -51,7 +44,5 @@ check-shape-spec =
     returns-2
     refused-requires-3
     returns-3
-    refused-requires-4
-    returns-4
     done-requires
-    returns-5)
+    returns-4)
