@@ -1,9 +1,7 @@
 pub mod Distance
-pub mod Positions
 pub mod Ordering
 pub mod Insertion
 pub mod Shifting
 pub mod Filling
 pub mod Needing
-pub mod FixedPairs
 pub mod Tables

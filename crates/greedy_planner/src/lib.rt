@@ -1,5 +1,4 @@
 // The greedy planner: document 01's rule for where each tensor sits.
-mod fixed;
 mod order;
 mod place;
 mod top;
@@ -10,12 +9,12 @@ ghost use lib.ListN.{length};
 ghost use Rattle.requests.specs.Limits.{grid as gridOf, greatestRows};
 ghost use Rattle.requests.specs.Table.{rows as rowsOf};
 ghost use Rattle.greedy_rule.specs.Plan.{planOf, plannedTable};
-ghost use Rattle.greedy_planner.specs.Arrays.{GoodRows, SmallOffsets, storedTable};
-ghost use Rattle.greedy_planner.specs.Decided.{Decided, Fitted};
 use answer::Answer;
-use fixed::Pair;
+use fixed_rows::Pair;
 use requests::GREATEST_ROWS;
 use units::Offset;
+ghost use Rattle.greedy_planner.specs.Arrays.{GoodRows, SmallOffsets, storedTable};
+ghost use Rattle.greedy_planner.specs.Decided.{Decided, Fitted};
 
 // What the planner decides, before anything is stored: the answer, and where it is done each row's offset.
 pub struct Decision {
@@ -55,7 +54,7 @@ pub(crate) fn decide(grid: u32, table: &[i32], space: u32, room: usize) -> Decis
     if checked.number != Answer::DONE {
         return refused(checked);
     }
-    match fixed::first_pair(grid, table) {
+    match fixed_rows::first_pair(grid, table) {
         Pair::Found(a, b) => refused(Answer::refused_pair(
             Answer::FIXED_ROWS_COLLIDE,
             a.0 as u32,

@@ -14,7 +14,7 @@ use Rattle.requests.specs.Limits.{greatestRows}
 use Rattle.requests.specs.Table.{rows}
 use Rattle.greedy_rule.specs.Plan.{fixedCollide}
 use Rattle.greedy_rule.specs.Answers.{check-stands, pair-refused, need-decides}
-use Rattle.greedy_planner.proofs.FixedPairs.{pair-says, nothing-says}
+use Rattle.fixed_rows.proofs.FixedPairs.{pair-says, nothing-says}
 use Rattle.greedy_planner.proofs.decide.Statement.{statement}
 use Rattle.greedy_planner.proofs.decide.Tie as tie
 

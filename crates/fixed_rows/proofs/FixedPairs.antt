@@ -12,8 +12,8 @@ use Rattle.requests.specs.declared.Buffer.{Buffer}
 use Rattle.requests.specs.declared.Request.{Request}
 use Rattle.units.specs.declared.Row.{Row}
 use Rattle.greedy_rule.specs.Plan.{fixedCollide}
-use Rattle.greedy_planner.specs.FixedPair.{fixedPair}
-use Rattle.greedy_planner.specs.declared.fixed.Pair.the-variants.{Found, Nothing}
+use Rattle.fixed_rows.specs.FixedPair.{fixedPair}
+use Rattle.fixed_rows.specs.declared.Pair.the-variants.{Found, Nothing}
 
 -- What the code tests of two rows.
 pub two-rows : (g : ℕ) (t : List ℤ) (a b : ℕ) {x y : Request} {u v : Buffer} {met : Bool} → x ≡ request t a → y ≡ request t b

@@ -6,8 +6,8 @@ use lib.IntN.{ℤ}
 use Rattle.bounded.specs.Pair.{pairBelow, pairFirst, pairSecond}
 use Rattle.requests.specs.Table.{rows}
 use Rattle.greedy_rule.specs.Plan.{fixedCollide}
-use Rattle.greedy_planner.specs.declared.fixed.Pair.{Pair}
-use Rattle.greedy_planner.specs.declared.fixed.Pair.the-variants.{Found, Nothing}
+use Rattle.fixed_rows.specs.declared.Pair.{Pair}
+use Rattle.fixed_rows.specs.declared.Pair.the-variants.{Found, Nothing}
 
 -- The pair of the least first row and then the least second, if there is one.
 unfoldable pub fixedPair : ℕ → List ℤ → Pair

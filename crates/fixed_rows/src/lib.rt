@@ -1,8 +1,8 @@
-// Whether two fixed rows collide: the search for the first pair.
+// Check 6: whether two fixed rows collide, and which pair of them is the first. Every planner asks it.
 ghost use mathlib.Core.Path.{_≡_};
 ghost use Rattle.greedy_rule.specs.Plan.{fixedCollide};
-ghost use Rattle.greedy_planner.specs.FixedPair.{fixedPair};
 use units::Row;
+ghost use Rattle.fixed_rows.specs.FixedPair.{fixedPair};
 
 // The pair that a search found, if there is one.
 pub enum Pair {
@@ -11,7 +11,7 @@ pub enum Pair {
 }
 
 // Whether both rows are fixed and collide, each at its own offset.
-pub(crate) fn fixed_collide(grid: u32, table: &[i32], a: Row, b: Row) -> bool
+pub fn fixed_collide(grid: u32, table: &[i32], a: Row, b: Row) -> bool
     ensures { λ r. ⌜ r ≡ fixedCollide grid (now (table .entry)) (a .0) (b .0) ⌝ }
 {
     let first = requests::request_at(table, a);
@@ -26,7 +26,7 @@ pub(crate) fn fixed_collide(grid: u32, table: &[i32], a: Row, b: Row) -> bool
 }
 
 // The first pair of fixed rows that collide, the least first row and then the least second: both scans end at once, at that pair.
-pub(crate) fn first_pair(grid: u32, table: &[i32]) -> Pair
+pub fn first_pair(grid: u32, table: &[i32]) -> Pair
     ensures { λ r. ⌜ r ≡ fixedPair grid (now (table .entry)) ⌝ }
 {
     let n = table.len() / 4;

@@ -1,8 +1,8 @@
--- `greedy_planner::fixed::fixed_collide` meets its contract.
+-- `fixed_rows::fixed_collide` meets its contract.
 use borrow.Author.Needs.{needs}
-use Rattle.greedy_planner.proofs.FixedPairs.{two-rows}
-use Rattle.greedy_planner.proofs.fixed.fixed_collide.Statement.{statement}
-use Rattle.greedy_planner.proofs.fixed.fixed_collide.Tie as tie
+use Rattle.fixed_rows.proofs.FixedPairs.{two-rows}
+use Rattle.fixed_rows.proofs.fixed_collide.Statement.{statement}
+use Rattle.fixed_rows.proofs.fixed_collide.Tie as tie
 
 request-at-requires : tie.Need-request-at-requires
 request-at-requires c κs = search needs

@@ -1,14 +1,14 @@
--- `greedy_planner::fixed::first_pair` meets its contract.
+-- `fixed_rows::first_pair` meets its contract.
 use Prim.Native.Nat.{_≤_, _<_, _-_}
 use mathlib.Core.Path.{_≡_, refl, _∙_, sym}
 use native.Mathlib.Omega.{arith}
 use Rattle.bounded.specs.First.{scan, pass}
 use Rattle.bounded.specs.Pair.{Outer, Inner, inner-out, inner-hit, outer-out}
 use Rattle.greedy_rule.specs.Plan.{fixedCollide}
-use Rattle.greedy_planner.specs.declared.fixed.Pair.the-variants.{Nothing}
-use Rattle.greedy_planner.proofs.FixedPairs.{pair-found, none-found}
-use Rattle.greedy_planner.proofs.fixed.first_pair.Statement.{statement}
-use Rattle.greedy_planner.proofs.fixed.first_pair.Tie as tie
+use Rattle.fixed_rows.specs.declared.Pair.the-variants.{Nothing}
+use Rattle.fixed_rows.proofs.FixedPairs.{pair-found, none-found}
+use Rattle.fixed_rows.proofs.first_pair.Statement.{statement}
+use Rattle.fixed_rows.proofs.first_pair.Tie as tie
 
 abbrev Inv-loop : tie.InvT-loop
 Inv-loop grid table n pair₀ a b₀ pair b = Inner (fixedCollide grid table) n a b × (pair ≡ Nothing) × (b ≤ n) × (a < b)
