@@ -1,6 +1,7 @@
 // Check 6: whether two fixed rows collide, and which pair of them is the first. Every planner asks it.
 ghost use mathlib.Core.Path.{_≡_};
 ghost use Rattle.greedy_rule.specs.Plan.{fixedCollide};
+
 use units::Row;
 ghost use Rattle.fixed_rows.specs.FixedPair.{fixedPair};
 
@@ -29,19 +30,19 @@ pub fn fixed_collide(grid: u32, table: &[i32], a: Row, b: Row) -> bool
 pub fn first_pair(grid: u32, table: &[i32]) -> Pair
     ensures { λ r. ⌜ r ≡ fixedPair grid (now (table .entry)) ⌝ }
 {
-    let n = table.len() / 4;
+    let n = table.len() / requests::ROW_WORDS;
     let mut pair = Pair::Nothing;
-    let mut a = 0;
-    'scan: while a < n {
-        let mut b = a + 1;
-        while b < n {
-            if fixed_collide(grid, table, Row(a), Row(b)) {
-                pair = Pair::Found(Row(a), Row(b));
+    let mut a = Row(0);
+    'scan: while a.0 < n {
+        let mut b = Row(a.0 + 1);
+        while b.0 < n {
+            if fixed_collide(grid, table, a, b) {
+                pair = Pair::Found(a, b);
                 break 'scan;
             }
-            b += 1;
+            b = Row(b.0 + 1);
         }
-        a += 1;
+        a = Row(a.0 + 1);
     }
     pair
 }

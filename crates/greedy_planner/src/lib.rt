@@ -9,10 +9,12 @@ ghost use lib.ListN.{length};
 ghost use Rattle.requests.specs.Limits.{grid as gridOf, greatestRows};
 ghost use Rattle.requests.specs.Table.{rows as rowsOf};
 ghost use Rattle.greedy_rule.specs.Plan.{planOf, plannedTable};
+
 use answer::Answer;
 use fixed_rows::Pair;
 use requests::GREATEST_ROWS;
 use units::Offset;
+use units::Row;
 ghost use Rattle.greedy_planner.specs.Arrays.{GoodRows, SmallOffsets, storedTable};
 ghost use Rattle.greedy_planner.specs.Decided.{Decided, Fitted};
 
@@ -70,12 +72,13 @@ fn store(table: &[i32], found: [Offset; GREATEST_ROWS], offsets: &mut [i32])
     requires { ⌜ SmallOffsets (now table) found ⌝ }
     ensures { λ _. ⌜ now (offsets .exit) ≡ storedTable (now (table .entry)) found (now (offsets .entry)) ⌝ }
 {
-    let n = table.len() / 4;
-    let mut row = 0;
-    while row < n {
-        let offset = found[row];
-        offsets[row] = offset.0 as i32;
-        row += 1;
+    let n = table.len() / requests::ROW_WORDS;
+    let mut row = Row(0);
+    while row.0 < n {
+        let at = row.0;
+        let offset = found[at];
+        offsets[at] = offset.0 as i32;
+        row = Row(at + 1);
     }
 }
 

@@ -5,6 +5,7 @@ ghost use Rattle.requests.specs.Buffers.{end, endOrZero};
 ghost use Rattle.requests.specs.Limits.{greatestRows};
 ghost use Rattle.requests.specs.Table.{rows as rowsOf};
 ghost use Rattle.greedy_rule.specs.Plan.{greedyNeed};
+
 use requests::Buffer;
 use requests::GREATEST_ROWS;
 use units::Offset;
@@ -32,14 +33,15 @@ pub(crate) fn need_of(grid: u32, table: &[i32], offsets: [Offset; GREATEST_ROWS]
     requires { ⌜ HoldsPlan grid (now table) offsets ⌝ }
     ensures { λ r. ⌜ r ≡ greedyNeed grid (now (table .entry)) ⌝ }
 {
-    let n = table.len() / 4;
+    let n = table.len() / requests::ROW_WORDS;
     let mut need = 0;
-    let mut row = 0;
-    while row < n {
-        let request = requests::request_at(table, Row(row));
-        let offset = offsets[row];
+    let mut row = Row(0);
+    while row.0 < n {
+        let request = requests::request_at(table, row);
+        let at = row.0;
+        let offset = offsets[at];
         need = raised(need, requests::buffer_at(grid, request, offset));
-        row += 1;
+        row = Row(at + 1);
     }
     need
 }

@@ -5,17 +5,20 @@ ghost use mathlib.Core.Path.{_≡_};
 ghost use lib.ListN.{length};
 ghost use Rattle.bounded.specs.First.{firstIn};
 ghost use Rattle.words.specs.Words.{wordAt};
-ghost use Rattle.requests.specs.Limits.{greatestRows};
-ghost use Rattle.requests.specs.Table.{rows as rowsOf, word as wordOf, request, onGrid, good, badRow};
-ghost use Rattle.requests.specs.Buffers.{occupied, buffer, liveTogether, endsAfter, collides};
-ghost use Rattle.requests.specs.Checks.{shapeOf, contentOf, checkOf};
+
 use answer::Answer;
 use units::Moment;
 use units::Offset;
 use units::Row;
+ghost use Rattle.requests.specs.Limits.{greatestRows};
+ghost use Rattle.requests.specs.Table.{rows as rowsOf, word as wordOf, request, onGrid, good, badRow};
+ghost use Rattle.requests.specs.Buffers.{occupied, buffer, liveTogether, endsAfter, collides};
+ghost use Rattle.requests.specs.Checks.{shapeOf, contentOf, checkOf};
 
 // The grid: rounding, fixed offsets and proposed offsets go by it.
 pub const GRID: u32 = 16;
+// A row of the table is this many words: size, first moment, last moment, fixed offset.
+pub const ROW_WORDS: usize = 4;
 // At most this many rows.
 pub const GREATEST_ROWS: usize = 256;
 // The greatest size, fixed offset and space.
@@ -40,20 +43,13 @@ pub struct Buffer {
     pub length: u64,
 }
 
-// How many whole rows the table has.
-pub fn rows(table: &[i32]) -> usize
-    ensures { λ r. ⌜ r ≡ rowsOf (now (table .entry)) ⌝ }
-{
-    table.len() / 4
-}
-
 // Where the word of a column stands. A row past the table gives a place past it too, where every word reads as 0.
 fn place_of(table: &[i32], row: Row, column: usize) -> usize
     requires { ⌜ column < 4 ⌝ }
     ensures { λ r. ⌜ wordAt (now (table .entry)) r ≡ wordOf (now (table .entry)) (row .0) column ⌝ }
 {
     if row.0 < table.len() {
-        return row.0 * 4 + column;
+        return row.0 * ROW_WORDS + column;
     }
     table.len()
 }
@@ -111,15 +107,15 @@ pub fn is_good(grid: u32, request: Request) -> bool
 pub fn lowest_bad_row(grid: u32, table: &[i32]) -> Row
     ensures { λ r. ⌜ r .0 ≡ firstIn (badRow grid (now (table .entry))) 0 (rowsOf (now (table .entry))) ⌝ }
 {
-    let n = table.len() / 4;
-    let mut i = 0;
-    while i < n {
-        if !is_good(grid, request_at(table, Row(i))) {
-            return Row(i);
+    let n = table.len() / ROW_WORDS;
+    let mut row = Row(0);
+    while row.0 < n {
+        if !is_good(grid, request_at(table, row)) {
+            return row;
         }
-        i += 1;
+        row = Row(row.0 + 1);
     }
-    Row(i)
+    row
 }
 
 // The row's buffer at an offset.
@@ -166,10 +162,10 @@ pub fn collide(a: Buffer, b: Buffer) -> bool
 fn check_shape(table: &[i32], room: usize) -> Answer
     ensures { λ r. ⌜ r ≡ shapeOf (now (table .entry)) room ⌝ }
 {
-    if table.len() % 4 != 0 {
+    if table.len() % ROW_WORDS != 0 {
         return Answer::refused(Answer::NOT_WHOLE_ROWS);
     }
-    let n = table.len() / 4;
+    let n = table.len() / ROW_WORDS;
     if GREATEST_ROWS < n {
         return Answer::refused(Answer::TOO_MANY);
     }
@@ -185,7 +181,7 @@ fn check_content(grid: u32, table: &[i32], space: u32) -> Answer
     ensures { λ r. ⌜ r ≡ contentOf grid (now (table .entry)) space ⌝ }
 {
     let bad = lowest_bad_row(grid, table);
-    let flawed = bad.0 < table.len() / 4;
+    let flawed = bad.0 < table.len() / ROW_WORDS;
     let too_large = GREATEST_SPACE < space;
     if too_large {
         return Answer::refused(Answer::SPACE_TOO_LARGE);

@@ -1,8 +1,8 @@
 -- `requests::check` meets its contract: a refusal of the first three stands, and past them the other two decide.
-use mathlib.Core.Path.{_≡_, sym, _∙_, ap}
+use mathlib.Core.Path.{sym, _∙_, ap}
 use denote.Ref.{now}
-use Rattle.requests.specs.CheckLaws.{Shaped, numberOf, shape-passed, shape-refused, content-decides}
 use borrow.Author.Needs.{needs}
+use Rattle.requests.specs.CheckLaws.{Shaped, numberOf, shape-passed, shape-refused, content-decides}
 use Rattle.requests.proofs.check.Statement.{statement}
 use Rattle.requests.proofs.check.Tie as tie
 

@@ -1,8 +1,8 @@
 -- `requests::check_shape` meets its contract: each way out is the first cause that holds.
 use borrow.Author.Tests.{lt-ltb, le-ltb, eq-eqb, ne-eqb}
-use Rattle.requests.specs.Checks.{shapeOf}
-use Rattle.bounded.specs.Causes.{firstCause}
 use borrow.Author.Needs.{needs}
+use Rattle.bounded.specs.Causes.{firstCause}
+use Rattle.requests.specs.Checks.{shapeOf}
 use Rattle.requests.proofs.check_shape.Statement.{statement}
 use Rattle.requests.proofs.check_shape.Tie as tie
 

@@ -1,4 +1,4 @@
--- `requests::lowest_bad_row` meets its contract.
+-- `requests::lowest_bad_row` meets its contract: the scan of the rows.
 use Prim.Native.Nat.{_-_}
 use native.Mathlib.Omega.{arith}
 use Rattle.bounded.specs.First.{Scan, scan, pass, hit, out}
@@ -7,10 +7,10 @@ use Rattle.requests.proofs.lowest_bad_row.Statement.{statement}
 use Rattle.requests.proofs.lowest_bad_row.Tie as tie
 
 abbrev Inv-loop : tie.InvT-loop
-Inv-loop grid table n i₀ i = Scan (badRow grid table) 0 n i
+Inv-loop grid table n row₀ row = Scan (badRow grid table) 0 n (row .0)
 
 abbrev μ-loop : tie.MeasureT-loop
-μ-loop grid table n i₀ i = n - i
+μ-loop grid table n row₀ row = n - row .0
 
 loop-holds : tie.Need-loop-holds Inv-loop μ-loop
 loop-holds c = scan _ _ _
@@ -22,19 +22,19 @@ is-good-requires : tie.Need-is-good-requires Inv-loop μ-loop
 is-good-requires c κs = tt
 
 returns : tie.Need-returns Inv-loop μ-loop
-returns c = let h = c .before .before .before in hit (h .before .loop .inv) (h .loop-test .taken) (cc)
+returns c = hit (c .before .before .before .before .before .loop .inv) (c .before .before .before .if1 .taken) (cc)
 
-add-i : tie.Need-add-i Inv-loop μ-loop
-add-i c = omega arith
+add-t9 : tie.Need-add-t9 Inv-loop μ-loop
+add-t9 c = omega (arith, c .before .before .before .before .if1 .taken)
 
 loop-less : tie.Need-loop-less Inv-loop μ-loop
-loop-less c = omega arith
+loop-less c = omega (arith, c .before .before .before .before .if1 .taken)
 
 loop-again : tie.Need-loop-again Inv-loop μ-loop
-loop-again c = let h = c .before .before .before in pass (h .before .loop .inv) (h .loop-test .taken) (cc)
+loop-again c = pass (c .before .before .before .before .before .before .loop .inv) (c .before .before .before .before .if1 .taken) (cc)
 
 returns-2 : tie.Need-returns-2 Inv-loop μ-loop
-returns-2 c = out (c .before .loop .inv) (c .loop-test .left)
+returns-2 c = out (c .before .before .loop .inv) (c .if1 .left)
 
 pub lowest-bad-row-spec : {M : Type 1} → statement M
 lowest-bad-row-spec =
@@ -46,7 +46,7 @@ lowest-bad-row-spec =
     request-at-requires
     is-good-requires
     returns
-    add-i
+    add-t9
     loop-less
     loop-again
     returns-2)

@@ -1,4 +1,4 @@
--- `greedy_planner::top::need_of` meets its contract.
+-- `greedy_planner::top::need_of` meets its contract: the greatest end of the rows so far.
 use Prim.Native.Nat.{_-_}
 use native.Mathlib.Omega.{arith}
 use Rattle.requests.specs.Rounding.{occupied-most}
@@ -7,10 +7,10 @@ use Rattle.greedy_planner.proofs.top.need_of.Statement.{statement}
 use Rattle.greedy_planner.proofs.top.need_of.Tie as tie
 
 abbrev Inv-loop : tie.InvT-loop
-Inv-loop grid table offsets n need₀ row₀ need row = Needing grid table need row
+Inv-loop grid table offsets n need₀ row₀ need row = Needing grid table need (row .0)
 
 abbrev μ-loop : tie.MeasureT-loop
-μ-loop grid table offsets n need₀ row₀ need row = n - row
+μ-loop grid table offsets n need₀ row₀ need row = n - row .0
 
 loop-holds : tie.Need-loop-holds Inv-loop μ-loop
 loop-holds c = needing-start _ _
@@ -19,38 +19,37 @@ request-at-requires : tie.Need-request-at-requires Inv-loop μ-loop
 request-at-requires c κs = tt
 
 mul-offset : tie.Need-mul-offset Inv-loop μ-loop
-mul-offset c = omega arith
+mul-offset c = omega (arith, c .before .if1 .taken)
 
 array-copy-out-offset : tie.Need-array-copy-out-offset Inv-loop μ-loop
-array-copy-out-offset c = omega arith
+array-copy-out-offset c = omega (arith, c .before .if1 .taken)
 
 buffer-at-requires : tie.Need-buffer-at-requires Inv-loop μ-loop
 buffer-at-requires c κs = tt
 
 raised-requires : tie.Need-raised-requires Inv-loop μ-loop
 raised-requires c κs =
-    let u = c .before .before .before .before .before in
-    let i = c .before .before .before .before .loop .row in
+    let u = c .before .before .before .before .before .before in
     let b = c .buffer-at .ensures in
-    let o = u .pre .1 .small i (c .before .before .before .loop-test .taken) in
+    let o = u .pre .1 .small (c .before .before .before .before .before .loop .row .0) (c .before .before .before .if1 .taken) in
     let l = occupied-most (u .args .grid) (c .before .before .request-at .result .size) in
     rw b (omega arith)
 
-add-row : tie.Need-add-row Inv-loop μ-loop
-add-row c = omega arith
+add-t13 : tie.Need-add-t13 Inv-loop μ-loop
+add-t13 c = omega (arith, c .before .before .before .before .if1 .taken)
 
 loop-less : tie.Need-loop-less Inv-loop μ-loop
-loop-less c = omega arith
+loop-less c = omega (arith, c .before .before .before .before .if1 .taken)
 
 loop-again : tie.Need-loop-again Inv-loop μ-loop
 loop-again c =
-    let u = c .before .before .before .before .before .before in
-    let i = c .before .before .before .before .before .loop .row in
-    let l = c .before .before .before .before .loop-test .taken in
-    needing-more (c .before .before .before .before .before .loop .inv) l (row-buffer (u .args .grid) _ i (c .before .before .before .request-at .ensures) (u .pre .1 .each i l) (c .before .buffer-at .ensures)) (c .raised .ensures)
+    let u = c .before .before .before .before .before .before .before in
+    let i = c .before .before .before .before .before .before .loop .row .0 in
+    let l = c .before .before .before .before .if1 .taken in
+    needing-more (c .before .before .before .before .before .before .loop .inv) l (row-buffer (u .args .grid) _ i (c .before .before .before .request-at .ensures) (u .pre .1 .each i l) (c .before .buffer-at .ensures)) (c .raised .ensures)
 
 returns : tie.Need-returns Inv-loop μ-loop
-returns c = needing-done (c .before .loop .inv) (c .loop-test .left)
+returns c = needing-done (c .before .before .loop .inv) (c .if1 .left)
 
 pub need-of-spec : {M : Type 1} → statement M
 need-of-spec =
@@ -64,7 +63,7 @@ need-of-spec =
     array-copy-out-offset
     buffer-at-requires
     raised-requires
-    add-row
+    add-t13
     loop-less
     loop-again
     returns)
