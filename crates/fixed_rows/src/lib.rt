@@ -1,9 +1,8 @@
 // Check 6: whether two fixed rows collide, and which pair of them is the first. Every planner asks it.
 ghost use mathlib.Core.Path.{_≡_};
 ghost use Rattle.greedy_rule.specs.Plan.{fixedCollide};
-
-use units::Row;
 ghost use Rattle.fixed_rows.specs.FixedPair.{fixedPair};
+use units::Row;
 
 // The pair that a search found, if there is one.
 pub enum Pair {

@@ -1,7 +1,7 @@
 // The greedy planner: document 01's rule for where each tensor sits.
+mod need;
 mod order;
 mod place;
-mod top;
 
 ghost use Prim.Native.Nat.{_≤_, _^_};
 ghost use mathlib.Core.Path.{_≡_};
@@ -9,14 +9,13 @@ ghost use lib.ListN.{length};
 ghost use Rattle.requests.specs.Limits.{grid as gridOf, greatestRows};
 ghost use Rattle.requests.specs.Table.{rows as rowsOf};
 ghost use Rattle.greedy_rule.specs.Plan.{planOf, plannedTable};
-
+ghost use Rattle.greedy_planner.specs.Arrays.{GoodRows, SmallOffsets, storedTable};
+ghost use Rattle.greedy_planner.specs.Decided.{Decided, Fitted};
 use answer::Answer;
 use fixed_rows::Pair;
 use requests::GREATEST_ROWS;
 use units::Offset;
 use units::Row;
-ghost use Rattle.greedy_planner.specs.Arrays.{GoodRows, SmallOffsets, storedTable};
-ghost use Rattle.greedy_planner.specs.Decided.{Decided, Fitted};
 
 // What the planner decides, before anything is stored: the answer, and where it is done each row's offset.
 pub struct Decision {
@@ -32,14 +31,15 @@ fn refused(answer: Answer) -> Decision
     Decision { answer, offsets }
 }
 
-// Places the rows of a good table whose fixed rows do not collide, and compares the need with the space.
+// Places the rows of a good table whose fixed rows do not collide, and compares the need with the space. The bound on the grid keeps every end far
+// from an overflow.
 fn fit(grid: u32, table: &[i32], space: u32) -> Decision
     requires { ⌜ (rowsOf (now table) ≤ greatestRows) × (grid ≤ 2 ^ 24) ⌝ }
     requires { ⌜ GoodRows grid (now table) ⌝ }
     ensures { λ r. ⌜ Fitted grid (now (table .entry)) space r ⌝ }
 {
     let offsets = place::place_rows(grid, table, order::order_rows(grid, table));
-    let need = top::need_of(grid, table, offsets);
+    let need = need::need_of(grid, table, offsets);
     if (space as u64) < need {
         return refused(Answer::refused_need(Answer::NEED_EXCEEDS_SPACE, need));
     }

@@ -64,9 +64,10 @@ module _ (g : ℕ) (t : List ℤ) (r : ℕ) where
   pub good-says : good g (request t r) ≡ true → GoodRow g t r
   unfolding good request
   good-says e =
-      let a = both _ _ e in
-      let b = both _ _ (a .1) in
-      let l = both _ _ (b .0) in
+      let x = request t r in
+      let a = both (goodSize x) (goodLife x && goodOffset g x) e in
+      let b = both (goodLife x) (goodOffset g x) (a .1) in
+      let l = both (leb (x .first .0) (x .last .0)) (leb (x .last .0) lastMoment) (b .0) in
       let size = within (word t r 0) greatestSpace (omega arith) (leb-true _ _ (a .0)) in
       let last = within (word t r 2) lastMoment (omega arith) (leb-true _ _ (l .1)) in
       let rising : natural (word t r 1) ≤ natural (word t r 2) = leb-true _ _ (l .0) in

@@ -5,15 +5,14 @@ ghost use mathlib.Core.Path.{_≡_};
 ghost use lib.ListN.{length};
 ghost use Rattle.bounded.specs.First.{firstIn};
 ghost use Rattle.words.specs.Words.{wordAt};
-
-use answer::Answer;
-use units::Moment;
-use units::Offset;
-use units::Row;
 ghost use Rattle.requests.specs.Limits.{greatestRows};
 ghost use Rattle.requests.specs.Table.{rows as rowsOf, word as wordOf, request, onGrid, good, badRow};
 ghost use Rattle.requests.specs.Buffers.{occupied, buffer, liveTogether, endsAfter, collides};
 ghost use Rattle.requests.specs.Checks.{shapeOf, contentOf, checkOf};
+use answer::Answer;
+use units::Moment;
+use units::Offset;
+use units::Row;
 
 // The grid: rounding, fixed offsets and proposed offsets go by it.
 pub const GRID: u32 = 16;

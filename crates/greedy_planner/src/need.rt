@@ -5,12 +5,11 @@ ghost use Rattle.requests.specs.Buffers.{end, endOrZero};
 ghost use Rattle.requests.specs.Limits.{greatestRows};
 ghost use Rattle.requests.specs.Table.{rows as rowsOf};
 ghost use Rattle.greedy_rule.specs.Plan.{greedyNeed};
-
+ghost use Rattle.greedy_planner.specs.Arrays.{HoldsPlan};
 use requests::Buffer;
 use requests::GREATEST_ROWS;
 use units::Offset;
 use units::Row;
-ghost use Rattle.greedy_planner.specs.Arrays.{HoldsPlan};
 
 // The need with one buffer more; an empty one counts for nothing.
 pub(crate) fn raised(need: u64, buffer: Buffer) -> u64

@@ -1,10 +1,10 @@
--- `greedy_planner::top::raised` meets its contract.
+-- `greedy_planner::need::raised` meets its contract.
 use native.Mathlib.Omega.{arith}
 use borrow.Author.Tests.{le-ltb}
 use borrow.Author.Needs.{needs}
 use Rattle.requests.specs.Needs.{end-counts, empty-counts}
-use Rattle.greedy_planner.proofs.top.raised.Statement.{statement}
-use Rattle.greedy_planner.proofs.top.raised.Tie as tie
+use Rattle.greedy_planner.proofs.need.raised.Statement.{statement}
+use Rattle.greedy_planner.proofs.need.raised.Tie as tie
 
 add-over : tie.Need-add-over
 add-over c = search needs

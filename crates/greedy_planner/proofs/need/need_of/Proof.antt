@@ -1,10 +1,10 @@
--- `greedy_planner::top::need_of` meets its contract: the greatest end of the rows so far.
+-- `greedy_planner::need::need_of` meets its contract: the greatest end of the rows so far.
 use Prim.Native.Nat.{_-_}
 use native.Mathlib.Omega.{arith}
 use Rattle.requests.specs.Rounding.{occupied-most}
 use Rattle.greedy_planner.proofs.Needing.{Needing, needing-start, needing-more, needing-done, row-buffer}
-use Rattle.greedy_planner.proofs.top.need_of.Statement.{statement}
-use Rattle.greedy_planner.proofs.top.need_of.Tie as tie
+use Rattle.greedy_planner.proofs.need.need_of.Statement.{statement}
+use Rattle.greedy_planner.proofs.need.need_of.Tie as tie
 
 abbrev Inv-loop : tie.InvT-loop
 Inv-loop grid table offsets n need₀ row₀ need row = Needing grid table need (row .0)
