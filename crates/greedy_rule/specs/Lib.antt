@@ -8,3 +8,4 @@ pub mod EmptyRows
 pub mod Answers
 pub mod PlanFits
 pub mod DonePlans
+pub mod Demand2

@@ -7,3 +7,4 @@ pub mod GoodRows
 pub mod Rounding
 pub mod Colliding
 pub mod Needs
+pub mod WellFormed
