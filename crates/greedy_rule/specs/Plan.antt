@@ -1,5 +1,5 @@
 -- The greedy planner's answer and the final content of its table (document 01, "The desk's order of checks"): "Planner: 1, 2, 3, 4, 5, 6, 7. It writes
--- the offsets." `room` is the length of the lent answer table. The plan itself is the greedy rule's (`placement`).
+-- the offsets." `room` is the length of the lent answer table. The plan itself is the greedy rule's (`Greedy`).
 use Prim.Native.Nat.{ℕ}
 use mathlib.Core.Bool.{Bool, true, false, _&&_}
 use mathlib.Core.List.{List, [], _∷_, _++_}
