@@ -15,9 +15,9 @@ use Rattle.bounded.specs.InOrder.{listFrom, rank, atRank, inOrder}
 use Rattle.bounded.specs.Pair.{partner, hasPartner, pairBelow, pairFirst, pairSecond}
 use Rattle.bounded.specs.Replaced.{replaced}
 use Rattle.words.specs.Words.{natural, isMinusOne}
-use Rattle.requests.specs.Buffers.{occupied, liveTogether, shareByte, collides, endOrZero, need}
-use Rattle.requests.specs.Limits.{grid}
-use Rattle.requests.specs.Table.{request, good}
+use Rattle.request_table.specs.Buffers.{occupied, liveTogether, shareByte, collides, endOrZero, need}
+use Rattle.request_table.specs.Limits.{grid}
+use Rattle.request_table.specs.Table.{request, good}
 use Rattle.placement.specs.Placing.{put, free, top, lowest, offsetFor, placing, place}
 use Rattle.greedy_rule.specs.Greedy.{largerFirst, fixedRows, greedyOrder, greedyPlan}
 use Rattle.greedy_rule.specs.Plan.{fixedCollide, greedyNeed, planOf, plannedTable}

@@ -6,10 +6,10 @@ use mathlib.Core.Path.{_≡_, refl, ap}
 use native.Mathlib.Omega.{arith}
 use lib.IntN.{ℤ}
 use Rattle.bounded.specs.Pair.{pairBelow, pairFirst, pairSecond}
-use Rattle.requests.specs.Buffers.{buffer, collides}
-use Rattle.requests.specs.Table.{rows, request}
-use Rattle.requests.specs.declared.Buffer.{Buffer}
-use Rattle.requests.specs.declared.Request.{Request}
+use Rattle.request_table.specs.Buffers.{buffer, collides}
+use Rattle.request_table.specs.Table.{rows, request}
+use Rattle.request_table.specs.declared.Buffer.{Buffer}
+use Rattle.request_table.specs.declared.Request.{Request}
 use Rattle.units.specs.declared.Row.{Row}
 use Rattle.greedy_rule.specs.Plan.{fixedCollide}
 use Rattle.fixed_rows.specs.FixedPair.{fixedPair}

@@ -4,7 +4,7 @@ use mathlib.Core.Bool.{true, false}
 use mathlib.Core.List.{List}
 use lib.IntN.{ℤ}
 use Rattle.bounded.specs.Pair.{pairBelow, pairFirst, pairSecond}
-use Rattle.requests.specs.Table.{rows}
+use Rattle.request_table.specs.Table.{rows}
 use Rattle.greedy_rule.specs.Plan.{fixedCollide}
 use Rattle.fixed_rows.specs.declared.Pair.{Pair}
 use Rattle.fixed_rows.specs.declared.Pair.the-variants.{Found, Nothing}

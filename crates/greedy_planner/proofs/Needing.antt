@@ -6,10 +6,10 @@ use native.Mathlib.Omega.{arith}
 use lib.IntN.{ℤ}
 use Rattle.bounded.specs.Greatest.{greatest, greatest-none, greatest-more}
 use Rattle.units.specs.declared.Offset.{Offset}
-use Rattle.requests.specs.Buffers.{buffer, bufferAt, endOrZero, need}
-use Rattle.requests.specs.Table.{rows, request}
-use Rattle.requests.specs.declared.Buffer.{Buffer}
-use Rattle.requests.specs.declared.Request.{Request}
+use Rattle.request_table.specs.Buffers.{buffer, bufferAt, endOrZero, need}
+use Rattle.request_table.specs.Table.{rows, request}
+use Rattle.request_table.specs.declared.Buffer.{Buffer}
+use Rattle.request_table.specs.declared.Request.{Request}
 use Rattle.greedy_rule.specs.Greedy.{greedyPlan}
 use Rattle.greedy_rule.specs.Plan.{greedyNeed}
 

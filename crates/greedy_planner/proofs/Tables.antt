@@ -6,7 +6,7 @@ use lib.IntN.{ℤ, pos}
 use lib.ListN.{length}
 use Rattle.bounded.specs.Replaced.{replaced-same}
 use Rattle.units.specs.declared.Offset.{Offset}
-use Rattle.requests.specs.Table.{rows}
+use Rattle.request_table.specs.Table.{rows}
 use Rattle.greedy_rule.specs.DonePlans.{done-table}
 use Rattle.greedy_rule.specs.Greedy.{greedyPlan}
 use Rattle.greedy_rule.specs.Plan.{planOf, plannedTable}

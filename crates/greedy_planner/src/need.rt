@@ -1,12 +1,12 @@
 // The need of a plan: the greatest end of a nonempty row.
 ghost use Prim.Native.Nat.{_≤_, _<_, _^_, max};
 ghost use mathlib.Core.Path.{_≡_};
-ghost use Rattle.requests.specs.Buffers.{end, endOrZero};
-ghost use Rattle.requests.specs.Limits.{greatestRows};
-ghost use Rattle.requests.specs.Table.{rows as rowsOf};
+ghost use Rattle.request_table.specs.Buffers.{end, endOrZero};
+ghost use Rattle.request_table.specs.Limits.{greatestRows};
+ghost use Rattle.request_table.specs.Table.{rows as rowsOf};
 ghost use Rattle.greedy_rule.specs.Plan.{greedyNeed};
 ghost use Rattle.greedy_planner.specs.Arrays.{HoldsPlan};
-use requests::Buffer;
+use request_table::Buffer;
 use requests::GREATEST_ROWS;
 use units::Offset;
 use units::Row;

@@ -12,11 +12,11 @@ use Rattle.answer.specs.Answer.{doneWith, refusedPair, refusedNeed, fixedRowsCo
 use Rattle.bounded.specs.Boolean.{both, both-hold, contrary, lt-or-le}
 use Rattle.bounded.specs.Causes.{NoneHolds, AllRefuse, firstCause, follows, follows-more, passed, refused-stands}
 use Rattle.bounded.specs.Pair.{pairBelow, pairFirst, pairSecond, no-pair, none-paired, least-pair}
-use Rattle.requests.specs.Buffers.{bufferAt}
-use Rattle.requests.specs.CheckLaws.{Checked, numberOf, none-refuses, checked}
-use Rattle.requests.specs.Checks.{tableCauses, checkOf}
-use Rattle.requests.specs.Colliding.{Colliding, collides-says, collides-of}
-use Rattle.requests.specs.Table.{rows, fixed, fixedOffset}
+use Rattle.request_table.specs.Buffers.{bufferAt}
+use Rattle.request_table.specs.CheckLaws.{Checked, numberOf, none-refuses, checked}
+use Rattle.request_table.specs.Checks.{tableCauses, checkOf}
+use Rattle.request_table.specs.Colliding.{Colliding, collides-says, collides-of}
+use Rattle.request_table.specs.Table.{rows, fixed, fixedOffset}
 use Rattle.greedy_rule.specs.NoCollision.{FixedRowsApart}
 use Rattle.greedy_rule.specs.Plan.{fixedCollide, greedyNeed, fixedCauses, needCauses, planCauses, fitOf, planOf}
 

@@ -7,10 +7,10 @@ use mathlib.Core.Path.{_≡_, refl, sym, _∙_, ap}
 use native.Mathlib.Omega.{arith}
 use lib.IntN.{ℤ}
 use Rattle.answer.specs.Answer.{done, fixedRowsCollide, needExceedsSpace, doneWith, refusedPair, refusedNeed}
-use Rattle.requests.specs.CheckLaws.{numberOf}
-use Rattle.requests.specs.Limits.{greatestSpace}
-use Rattle.requests.specs.Table.{rows}
-use Rattle.requests.specs.WellFormed.{WellFormed, passes}
+use Rattle.request_table.specs.CheckLaws.{numberOf}
+use Rattle.request_table.specs.Limits.{greatestSpace}
+use Rattle.request_table.specs.Table.{rows}
+use Rattle.request_table.specs.WellFormed.{WellFormed, passes}
 use Rattle.greedy_rule.specs.Answers.{FixedClash, LeastClash, Outcome, clash, too-much, planned, refused-only-as-6-or-7}
 use Rattle.greedy_rule.specs.NoCollision.{FixedRowsApart}
 use Rattle.greedy_rule.specs.Plan.{greedyNeed, planOf}

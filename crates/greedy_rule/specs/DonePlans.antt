@@ -9,10 +9,10 @@ use lib.IntN.{ℤ, pos}
 use lib.ListN.{length, getD}
 use Rattle.answer.specs.Answer.{doneWith}
 use Rattle.bounded.specs.Replaced.{replaced, replaced-length, replaced-at, replaced-past}
-use Rattle.requests.specs.Buffers.{bufferAt, end}
-use Rattle.requests.specs.Colliding.{Colliding}
-use Rattle.requests.specs.Needs.{EndsThere, need-bounds, need-is-one}
-use Rattle.requests.specs.Table.{rows, fixed, fixedOffset}
+use Rattle.request_table.specs.Buffers.{bufferAt, end}
+use Rattle.request_table.specs.Colliding.{Colliding}
+use Rattle.request_table.specs.Needs.{EndsThere, need-bounds, need-is-one}
+use Rattle.request_table.specs.Table.{rows, fixed, fixedOffset}
 use Rattle.greedy_rule.specs.Answers.{done-says, done-of}
 use Rattle.greedy_rule.specs.Greedy.{greedyPlan}
 use Rattle.greedy_rule.specs.NoCollision.{no-rows-collide}

@@ -4,7 +4,7 @@ use mathlib.Core.Bool.{false}
 use mathlib.Core.List.{List, _∷_, _++_}
 use mathlib.Core.Path.{_≡_, _∙_, ap}
 use lib.IntN.{ℤ}
-use Rattle.requests.specs.Table.{rows, request, fixed}
+use Rattle.request_table.specs.Table.{rows, request, fixed}
 use Rattle.placement.specs.EmptyRows.{empty-lowest, left-out}
 use Rattle.placement.specs.Placing.{offsetFor, place}
 use Rattle.greedy_rule.specs.Greedy.{fixedFirst, greedyOrder, greedyPlan}

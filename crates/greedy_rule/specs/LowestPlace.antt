@@ -7,9 +7,9 @@ use mathlib.Core.Path.{_≡_, sym, _∙_, subst}
 use native.Mathlib.Omega.{arith}
 use borrow.Author.Tests.{lt-ltb, ltb-true}
 use lib.IntN.{ℤ}
-use Rattle.requests.specs.Buffers.{bufferAt}
-use Rattle.requests.specs.Colliding.{Colliding}
-use Rattle.requests.specs.Table.{rows, fixed}
+use Rattle.request_table.specs.Buffers.{bufferAt}
+use Rattle.request_table.specs.Colliding.{Colliding}
+use Rattle.request_table.specs.Table.{rows, fixed}
 use Rattle.placement.specs.LowestFree.{LowestFree, Blocker, lowest-free}
 use Rattle.placement.specs.Placing.{lowest, offsetFor}
 use Rattle.greedy_rule.specs.Greedy.{greedyPlan}

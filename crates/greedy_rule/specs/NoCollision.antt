@@ -7,9 +7,9 @@ use mathlib.Core.Path.{_≡_, refl, sym, _∙_, ap, subst}
 use native.Mathlib.Omega.{arith}
 use lib.IntN.{ℤ}
 use Rattle.bounded.specs.Boolean.{lt-or-le}
-use Rattle.requests.specs.Buffers.{bufferAt}
-use Rattle.requests.specs.Colliding.{Colliding}
-use Rattle.requests.specs.Table.{rows, fixed, fixedOffset}
+use Rattle.request_table.specs.Buffers.{bufferAt}
+use Rattle.request_table.specs.Colliding.{Colliding}
+use Rattle.request_table.specs.Table.{rows, fixed, fixedOffset}
 use Rattle.greedy_rule.specs.Greedy.{greedyPlan}
 use Rattle.greedy_rule.specs.GreedyOrder.{position, rowAt, position-listed, fixed-before-rest, before-says}
 use Rattle.greedy_rule.specs.PlanByPosition.{fixed-rows-stay}

@@ -11,9 +11,9 @@ use Rattle.answer.specs.Answer as A
 use Rattle.bounded.specs.Causes.{Cause, _⇒_, firstCause}
 use Rattle.bounded.specs.Pair.{pairBelow, pairFirst, pairSecond}
 use Rattle.bounded.specs.Replaced.{replaced}
-use Rattle.requests.specs.Buffers.{bufferAt, collides, need}
-use Rattle.requests.specs.Checks.{tableCauses}
-use Rattle.requests.specs.Table.{rows, fixed, fixedOffset}
+use Rattle.request_table.specs.Buffers.{bufferAt, collides, need}
+use Rattle.request_table.specs.Checks.{tableCauses}
+use Rattle.request_table.specs.Table.{rows, fixed, fixedOffset}
 use Rattle.greedy_rule.specs.Greedy.{greedyPlan}
 
 -- Two fixed rows collide, each at its own offset.

@@ -7,12 +7,12 @@ use mathlib.Core.Path.{_≡_, refl}
 use native.Mathlib.Omega.{arith}
 use lib.IntN.{ℤ}
 use Rattle.bounded.specs.Boolean.{lt-or-le}
-use Rattle.requests.specs.Buffers.{bufferAt}
-use Rattle.requests.specs.GoodRows.{good-offset}
-use Rattle.requests.specs.Limits.{greatestSpace}
-use Rattle.requests.specs.Needs.{need-bounds}
-use Rattle.requests.specs.Rounding.{occupied-holds}
-use Rattle.requests.specs.Table.{rows, request, fixed}
+use Rattle.request_table.specs.Buffers.{bufferAt}
+use Rattle.request_table.specs.GoodRows.{good-offset}
+use Rattle.request_table.specs.Limits.{greatestSpace}
+use Rattle.request_table.specs.Needs.{need-bounds}
+use Rattle.request_table.specs.Rounding.{occupied-holds}
+use Rattle.request_table.specs.Table.{rows, request, fixed}
 use Rattle.greedy_rule.specs.EmptyRows.{empty-at-zero}
 use Rattle.greedy_rule.specs.Greedy.{greedyPlan}
 use Rattle.greedy_rule.specs.PlanByPosition.{fixed-rows-stay}

@@ -11,10 +11,10 @@ use lib.ListN.{length, getD, length-append, List·getD-append}
 use lib.Seq.{getD-append-add, getD-append-seam}
 use Rattle.bounded.specs.Boolean.{same-or-not}
 use Rattle.bounded.specs.First.{one-least, holds-same, none-found}
-use Rattle.requests.specs.Buffers.{bufferAt, collides}
-use Rattle.requests.specs.Colliding.{apart, collides-either}
-use Rattle.requests.specs.Rounding.{occupied-empty}
-use Rattle.requests.specs.Table.{rows, request, fixed}
+use Rattle.request_table.specs.Buffers.{bufferAt, collides}
+use Rattle.request_table.specs.Colliding.{apart, collides-either}
+use Rattle.request_table.specs.Rounding.{occupied-empty}
+use Rattle.request_table.specs.Table.{rows, request, fixed}
 use Rattle.placement.specs.Placing.{Placing, put, blocks, free, lowest, offsetFor, placing, place}
 use Rattle.placement.specs.Put.{put-there, put-elsewhere, placed-there, placed-elsewhere}
 use Rattle.placement.specs.LowestFree.{lowest-is}

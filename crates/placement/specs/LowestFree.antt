@@ -9,10 +9,10 @@ use lib.IntN.{ℤ}
 use Rattle.bounded.specs.Boolean.{both, both-hold, contrary}
 use Rattle.bounded.specs.First.{firstIn, IsLeast, least-is, none-holds, none-found, found}
 use Rattle.bounded.specs.Greatest.{greatest-bound}
-use Rattle.requests.specs.Buffers.{bufferAt, collides, end, endOrZero}
-use Rattle.requests.specs.Colliding.{Colliding, collides-says, collides-of, apart}
-use Rattle.requests.specs.Needs.{end-counts}
-use Rattle.requests.specs.Table.{rows}
+use Rattle.request_table.specs.Buffers.{bufferAt, collides, end, endOrZero}
+use Rattle.request_table.specs.Colliding.{Colliding, collides-says, collides-of, apart}
+use Rattle.request_table.specs.Needs.{end-counts}
+use Rattle.request_table.specs.Table.{rows}
 use Rattle.placement.specs.Placing.{Placing, blocks, free, top, lowest}
 
 -- A row that is placed and collides with row r at offset o.

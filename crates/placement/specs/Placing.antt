@@ -8,8 +8,8 @@ use lib.IntN.{ℤ}
 use lib.ListN.{length, getD}
 use Rattle.bounded.specs.First.{firstIn, holdsBelow}
 use Rattle.bounded.specs.Greatest.{greatest}
-use Rattle.requests.specs.Buffers.{bufferAt, collides, endOrZero}
-use Rattle.requests.specs.Table.{rows, fixed, fixedOffset}
+use Rattle.request_table.specs.Buffers.{bufferAt, collides, endOrZero}
+use Rattle.request_table.specs.Table.{rows, fixed, fixedOffset}
 
 -- Which rows are placed, and the offset of each.
 pub record Placing : Type 0 where

@@ -1,15 +1,17 @@
-// The request table (document 01, "Requests and the greedy rule"): its rows, which rows are good, and when two rows collide; and the checks
-// 1 to 5, with which every planner and the inspector begin.
+// Reading the request table (document 01, "Requests and the greedy rule"): its rows, whether a row is good, whether two rows collide; and the checks
+// 1 to 5, with which every planner and the inspector begin. All is total: any table, any row, any grid.
 ghost use Prim.Native.Nat.{_+_, _<_, _≤_};
 ghost use mathlib.Core.Path.{_≡_};
 ghost use lib.ListN.{length};
 ghost use Rattle.bounded.specs.First.{firstIn};
 ghost use Rattle.words.specs.Words.{wordAt};
-ghost use Rattle.requests.specs.Limits.{greatestRows};
-ghost use Rattle.requests.specs.Table.{rows as rowsOf, word as wordOf, request, onGrid, good, badRow};
-ghost use Rattle.requests.specs.Buffers.{occupied, buffer, liveTogether, endsAfter, collides};
-ghost use Rattle.requests.specs.Checks.{shapeOf, contentOf, checkOf};
+ghost use Rattle.request_table.specs.Limits.{greatestRows};
+ghost use Rattle.request_table.specs.Table.{rows as rowsOf, word as wordOf, request, onGrid, good, badRow};
+ghost use Rattle.request_table.specs.Buffers.{occupied, buffer, liveTogether, endsAfter, collides};
+ghost use Rattle.request_table.specs.Checks.{shapeOf, contentOf, checkOf};
 use answer::Answer;
+use request_table::Buffer;
+use request_table::Request;
 use units::Moment;
 use units::Offset;
 use units::Row;
@@ -24,23 +26,6 @@ pub const GREATEST_ROWS: usize = 256;
 pub const GREATEST_SPACE: u32 = 16777216;
 // The last moment that a row may name.
 pub const LAST_MOMENT: u32 = 65535;
-
-// One row of the table. The offset of a row that is not fixed says nothing.
-pub struct Request {
-    pub size: u32,
-    pub first: Moment,
-    pub last: Moment,
-    pub fixed: bool,
-    pub offset: Offset,
-}
-
-// A row at an offset: document 01's span, with the row's life.
-pub struct Buffer {
-    pub first: Moment,
-    pub last: Moment,
-    pub offset: Offset,
-    pub length: u64,
-}
 
 // Where the word of a column stands. A row past the table gives a place past it too, where every word reads as 0.
 fn place_of(table: &[i32], row: Row, column: usize) -> usize

@@ -9,9 +9,9 @@ use borrow.Author.Needs.{needs}
 use lib.IntN.{ℤ}
 use Rattle.answer.specs.Answer.{refusedPair, fixedRowsCollide}
 use Rattle.bounded.specs.Pair.{pairBelow, pairFirst, pairSecond, least-pair}
-use Rattle.requests.specs.CheckLaws.{Checked, checked, numberOf}
-use Rattle.requests.specs.Limits.{greatestRows}
-use Rattle.requests.specs.Table.{rows}
+use Rattle.request_table.specs.CheckLaws.{Checked, checked, numberOf}
+use Rattle.request_table.specs.Limits.{greatestRows}
+use Rattle.request_table.specs.Table.{rows}
 use Rattle.greedy_rule.specs.Plan.{fixedCollide}
 use Rattle.greedy_rule.specs.Answers.{check-stands, pair-refused, need-decides}
 use Rattle.fixed_rows.proofs.FixedPairs.{pair-says, nothing-says}

@@ -4,8 +4,8 @@ use native.Mathlib.Omega.{arith}
 use denote.Ref.{now}
 use borrow.Author.Needs.{needs}
 use lib.ListN.{length}
-use Rattle.requests.specs.CheckLaws.{numberOf}
-use Rattle.requests.specs.Limits.{grid}
+use Rattle.request_table.specs.CheckLaws.{numberOf}
+use Rattle.request_table.specs.Limits.{grid}
 use Rattle.greedy_rule.specs.Answers.{Done, done-says}
 use Rattle.greedy_rule.specs.DonePlans.{refusal-keeps}
 use Rattle.greedy_rule.specs.PlanFits.{plan-fits}

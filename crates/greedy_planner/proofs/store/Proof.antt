@@ -8,7 +8,7 @@ use lib.IntN.{ℤ, pos}
 use lib.ListN.{length, set}
 use mir.Facts.{toZ-pos}
 use mir.Syntax.{w32}
-use Rattle.requests.specs.Table.{rows}
+use Rattle.request_table.specs.Table.{rows}
 use Rattle.bounded.specs.Replaced.{replaced, replaced-none, replaced-more, replaced-length}
 use Rattle.greedy_planner.specs.Arrays.{offsetIn}
 use Rattle.greedy_planner.proofs.store.Statement.{statement}

@@ -1,13 +1,13 @@
 -- `requests::check_content` meets its contract.
 use denote.Ref.{now}
-use Rattle.requests.specs.Table.{rows}
+use Rattle.request_table.specs.Table.{rows}
 -- `requests::check_content` meets its contract: the space, then the lowest bad row.
 use Prim.Native.Nat.{_<_, _≤_}
 use mathlib.Core.Path.{_∙_}
 use native.Mathlib.Omega.{arith}
 use borrow.Author.Tests.{ltb-true, ltb-false}
 use borrow.Author.Needs.{needs}
-use Rattle.requests.specs.CheckLaws.{space-refused, row-refused, content-passed}
+use Rattle.request_table.specs.CheckLaws.{space-refused, row-refused, content-passed}
 use Rattle.requests.proofs.check_content.Statement.{statement}
 use Rattle.requests.proofs.check_content.Tie as tie
 

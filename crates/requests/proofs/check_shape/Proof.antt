@@ -2,7 +2,7 @@
 use borrow.Author.Tests.{lt-ltb, le-ltb, eq-eqb, ne-eqb}
 use borrow.Author.Needs.{needs}
 use Rattle.bounded.specs.Causes.{firstCause}
-use Rattle.requests.specs.Checks.{shapeOf}
+use Rattle.request_table.specs.Checks.{shapeOf}
 use Rattle.requests.proofs.check_shape.Statement.{statement}
 use Rattle.requests.proofs.check_shape.Tie as tie
 

@@ -1,6 +1,6 @@
 -- `requests::collide` meets its contract.
 use borrow.Author.Needs.{needs}
-use Rattle.requests.specs.Buffers.{collides, shareByte}
+use Rattle.request_table.specs.Buffers.{collides, shareByte}
 use Rattle.requests.proofs.collide.Statement.{statement}
 use Rattle.requests.proofs.collide.Tie as tie
 

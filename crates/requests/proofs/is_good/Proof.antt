@@ -1,6 +1,6 @@
 -- `requests::is_good` meets its contract.
 use borrow.Author.Needs.{needs}
-use Rattle.requests.specs.Table.{good}
+use Rattle.request_table.specs.Table.{good}
 use Rattle.requests.proofs.is_good.Statement.{statement}
 use Rattle.requests.proofs.is_good.Tie as tie
 

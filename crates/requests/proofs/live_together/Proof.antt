@@ -1,5 +1,5 @@
 -- `requests::live_together` meets its contract.
-use Rattle.requests.specs.Buffers.{liveTogether}
+use Rattle.request_table.specs.Buffers.{liveTogether}
 use Rattle.requests.proofs.live_together.Statement.{statement}
 use Rattle.requests.proofs.live_together.Tie as tie
 

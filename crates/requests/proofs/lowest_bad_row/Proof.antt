@@ -2,7 +2,7 @@
 use Prim.Native.Nat.{_-_}
 use native.Mathlib.Omega.{arith}
 use Rattle.bounded.specs.First.{Scan, scan, pass, hit, out}
-use Rattle.requests.specs.Table.{badRow}
+use Rattle.request_table.specs.Table.{badRow}
 use Rattle.requests.proofs.lowest_bad_row.Statement.{statement}
 use Rattle.requests.proofs.lowest_bad_row.Tie as tie
 

@@ -4,7 +4,7 @@ use mathlib.Core.Path.{refl}
 use native.Mathlib.Nat.{div-mul-le-self, mul-zero}
 use native.Mathlib.Omega.{arith}
 use borrow.Author.Needs.{needs}
-use Rattle.requests.specs.Buffers.{occupied}
+use Rattle.request_table.specs.Buffers.{occupied}
 use Rattle.requests.proofs.occupied_size.Statement.{statement}
 use Rattle.requests.proofs.occupied_size.Tie as tie
 

@@ -1,6 +1,6 @@
 -- `requests::request_at` meets its contract.
 use borrow.Author.Needs.{needs}
-use Rattle.requests.specs.Table.{request}
+use Rattle.request_table.specs.Table.{request}
 use Rattle.requests.proofs.request_at.Statement.{statement}
 use Rattle.requests.proofs.request_at.Tie as tie
 

@@ -1,7 +1,7 @@
 -- `greedy_planner::need::need_of` meets its contract: the greatest end of the rows so far.
 use Prim.Native.Nat.{_-_}
 use native.Mathlib.Omega.{arith}
-use Rattle.requests.specs.Rounding.{occupied-most}
+use Rattle.request_table.specs.Rounding.{occupied-most}
 use Rattle.greedy_planner.proofs.Needing.{Needing, needing-start, needing-more, needing-done, row-buffer}
 use Rattle.greedy_planner.proofs.need.need_of.Statement.{statement}
 use Rattle.greedy_planner.proofs.need.need_of.Tie as tie

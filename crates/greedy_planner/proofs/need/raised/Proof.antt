@@ -2,7 +2,7 @@
 use native.Mathlib.Omega.{arith}
 use borrow.Author.Tests.{le-ltb}
 use borrow.Author.Needs.{needs}
-use Rattle.requests.specs.Needs.{end-counts, empty-counts}
+use Rattle.request_table.specs.Needs.{end-counts, empty-counts}
 use Rattle.greedy_planner.proofs.need.raised.Statement.{statement}
 use Rattle.greedy_planner.proofs.need.raised.Tie as tie
 

@@ -8,9 +8,9 @@ use native.Mathlib.Omega.{arith}
 use borrow.Author.Tests.{lt-ltb, ltb-true}
 use lib.IntN.{ℤ}
 use Rattle.bounded.specs.Greatest.{greatest, Taken, greatest-bound, greatest-is-one}
-use Rattle.requests.specs.Table.{rows}
-use Rattle.requests.specs.Buffers.{bufferAt, end, nonempty, endOrZero, need}
-use Rattle.requests.specs.declared.Buffer.{Buffer}
+use Rattle.request_table.specs.Table.{rows}
+use Rattle.request_table.specs.Buffers.{bufferAt, end, nonempty, endOrZero, need}
+use Rattle.request_table.specs.declared.Buffer.{Buffer}
 
 -- The end of a nonempty buffer is what counts.
 pub end-counts : (a : Buffer) → 0 < a .length → endOrZero a ≡ end a

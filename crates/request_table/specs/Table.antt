@@ -8,8 +8,8 @@ use lib.Dec.{leb, eqb}
 use lib.IntN.{ℤ}
 use lib.ListN.{length}
 use Rattle.words.specs.Words.{wordAt, natural, isMinusOne}
-use Rattle.requests.specs.Limits.{greatestSpace, lastMoment}
-use Rattle.requests.specs.declared.Request.{Request}
+use Rattle.request_table.specs.Limits.{greatestSpace, lastMoment}
+use Rattle.request_table.specs.declared.Request.{Request}
 
 -- How many whole rows the table has.
 abbrev pub rows : List ℤ → ℕ

@@ -12,9 +12,9 @@ use lib.IntN.{ℤ, pos, negsuc}
 use lib.Signed.{_≤ℤ_, leZ-yes}
 use Rattle.bounded.specs.Boolean.{both, both-hold, either}
 use Rattle.words.specs.Words.{natural, isMinusOne}
-use Rattle.requests.specs.Limits.{greatestSpace, lastMoment}
-use Rattle.requests.specs.Table.{word, request, onGrid, goodSize, goodLife, goodOffset, good}
-use Rattle.requests.specs.declared.Request.{Request}
+use Rattle.request_table.specs.Limits.{greatestSpace, lastMoment}
+use Rattle.request_table.specs.Table.{word, request, onGrid, goodSize, goodLife, goodOffset, good}
+use Rattle.request_table.specs.declared.Request.{Request}
 
 -- A natural multiple of the grid, up to the greatest offset.
 pub record Multiple (g : ℕ) (z : ℤ) : Type 0 where

@@ -4,10 +4,10 @@ use mathlib.Core.List.{List}
 use mathlib.Core.Path.{_≡_}
 use lib.IntN.{ℤ}
 use lib.ListN.{length}
-use Rattle.requests.specs.CheckLaws.{Shaped, Checked}
-use Rattle.requests.specs.GoodRows.{GoodRow, good-says, good-of}
-use Rattle.requests.specs.Limits.{greatestRows, greatestSpace}
-use Rattle.requests.specs.Table.{rows}
+use Rattle.request_table.specs.CheckLaws.{Shaped, Checked}
+use Rattle.request_table.specs.GoodRows.{GoodRow, good-says, good-of}
+use Rattle.request_table.specs.Limits.{greatestRows, greatestSpace}
+use Rattle.request_table.specs.Table.{rows}
 
 -- Whole rows, at most 256 of them, each of them good.
 pub record WellFormed (g : ℕ) (t : List ℤ) : Type 0 where

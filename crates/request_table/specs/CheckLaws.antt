@@ -11,9 +11,9 @@ use Rattle.answer.specs.declared.Answer.{Answer}
 use Rattle.answer.specs.Answer.{refused, refusedAt, doneWith, spaceTooLarge, badRow as badRowNumber}
 use Rattle.bounded.specs.Causes.{NoneHolds, AllRefuse, firstCause, follows-more, passed, refused-stands}
 use Rattle.bounded.specs.First.{firstIn, holdsBelow, none-holds, none-found}
-use Rattle.requests.specs.Limits.{greatestRows, greatestSpace}
-use Rattle.requests.specs.Table.{rows, request, good, badRow}
-use Rattle.requests.specs.Checks.{shapeCauses, contentCauses, tableCauses, shapeOf, contentOf, checkOf}
+use Rattle.request_table.specs.Limits.{greatestRows, greatestSpace}
+use Rattle.request_table.specs.Table.{rows, request, good, badRow}
+use Rattle.request_table.specs.Checks.{shapeCauses, contentCauses, tableCauses, shapeOf, contentOf, checkOf}
 
 -- What lets a table and a room pass the checks 1 to 3.
 pub record Shaped (t : List ℤ) (room : ℕ) : Type 0 where

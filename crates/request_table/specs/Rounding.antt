@@ -3,7 +3,7 @@ use Prim.Native.Nat.{ℕ, zero, suc, _+_, _-_, _/_, _%_, _<_, _≤_}
 use mathlib.Core.Path.{_≡_}
 use native.Mathlib.Nat.{div-add-mod', mod-lt, mul-mod-left, mul-zero, zero-mul, div-eq-of-lt, div-mul-le-self}
 use native.Mathlib.Omega.{arith}
-use Rattle.requests.specs.Buffers.{occupied}
+use Rattle.request_table.specs.Buffers.{occupied}
 
 module _ (g size : ℕ) where
   -- It is a multiple of the grid.

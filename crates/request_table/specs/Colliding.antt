@@ -6,8 +6,8 @@ use native.Mathlib.Omega.{arith}
 use borrow.Author.Tests.{ltb-true, leb-true, lt-ltb, le-leb}
 use lib.Dec.{leb}
 use Rattle.bounded.specs.Boolean.{both, both-hold, contrary, same-test}
-use Rattle.requests.specs.Buffers.{end, nonempty, liveTogether, endsAfter, shareByte, collides}
-use Rattle.requests.specs.declared.Buffer.{Buffer}
+use Rattle.request_table.specs.Buffers.{end, nonempty, liveTogether, endsAfter, shareByte, collides}
+use Rattle.request_table.specs.declared.Buffer.{Buffer}
 
 -- Both have a byte, each is there before the other's last moment has passed, and each starts before the other ends.
 pub record Colliding (a b : Buffer) : Type 0 where

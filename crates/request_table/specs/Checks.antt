@@ -9,8 +9,8 @@ use Rattle.answer.specs.declared.Answer.{Answer}
 use Rattle.answer.specs.Answer as A
 use Rattle.bounded.specs.Causes.{Cause, _⇒_, firstCause}
 use Rattle.bounded.specs.First.{firstIn, holdsBelow}
-use Rattle.requests.specs.Limits.{greatestRows, greatestSpace}
-use Rattle.requests.specs.Table.{rows, wholeRows, badRow}
+use Rattle.request_table.specs.Limits.{greatestRows, greatestSpace}
+use Rattle.request_table.specs.Table.{rows, wholeRows, badRow}
 
 -- 1 to 3: the tables' lengths.
 abbrev pub shapeCauses : List ℤ → ℕ → List (Cause Answer)

@@ -7,9 +7,9 @@ use lib.Dec.{leb, ltb}
 use lib.IntN.{ℤ}
 use Rattle.bounded.specs.Greatest.{greatest}
 use Rattle.units.specs.declared.Offset.{Offset}
-use Rattle.requests.specs.Table.{rows, request}
-use Rattle.requests.specs.declared.Request.{Request}
-use Rattle.requests.specs.declared.Buffer.{Buffer}
+use Rattle.request_table.specs.Table.{rows, request}
+use Rattle.request_table.specs.declared.Request.{Request}
+use Rattle.request_table.specs.declared.Buffer.{Buffer}
 
 -- Document 01: "The occupied size is the size rounded up to a multiple of 16."
 unfoldable pub occupied : ℕ → ℕ → ℕ
