@@ -91,14 +91,14 @@ module _ (g : ℕ) (t : List ℤ) where
       -- A refusal of the checks 1 to 5 is the planner's.
       pub check-stands : (checkOf g t space room .number ≡ 0 → ⊥) → checkOf g t space room ≡ planOf g t space room
       unfolding checkOf planOf
-      check-stands h = refused-stands numberOf (tableCauses g t space room) (fixedCauses g t ++ needCauses g t space) (doneWith 0) (doneWith (greedyNeed g t)) refl h
+      check-stands h = refused-stands numberOf (tableCauses g t space room) _ (doneWith 0) _ refl h
 
       -- Past them, two fixed rows that collide are the refusal,
       pub pair-refused : Checked g t space room → pairBelow (fixedCollide g t) (rows t) ≡ true
           → refusedPair fixedRowsCollide (pairFirst (fixedCollide g t) (rows t)) (pairSecond (fixedCollide g t) (rows t)) ≡ planOf g t space room
       unfolding planOf
       pair-refused c e =
-          sym (follows-more (tableCauses g t space room) (fixedCauses g t ++ needCauses g t space) (doneWith (greedyNeed g t)) (none-refuses t room g space c) ∙ rw (e, firstCause))
+          sym (follows-more (tableCauses g t space room) _ _ (none-refuses t room g space c) ∙ rw (e, firstCause))
 
       -- and where there are none, the need decides.
       pub need-decides : Checked g t space room → pairBelow (fixedCollide g t) (rows t) ≡ false → fitOf g t space ≡ planOf g t space room

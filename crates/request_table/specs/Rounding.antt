@@ -9,7 +9,7 @@ module _ (g size : ℕ) where
   -- It is a multiple of the grid.
   pub occupied-multiple : occupied g size % g ≡ 0
   unfolding occupied
-  occupied-multiple = mul-mod-left ((size + (g - 1)) / g) g
+  occupied-multiple = mul-mod-left _ g
 
   -- It holds the size.
   pub occupied-holds : 0 < g → size ≤ occupied g size
