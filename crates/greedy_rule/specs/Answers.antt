@@ -2,7 +2,7 @@
 -- least pair; 7 exactly if not 6 and the plan's need exceeds the space. All else is done, with the need.
 use Prim.Native.Nat.{ℕ, _<_, _≤_}
 use mathlib.Core.Bool.{Bool, true, false, _&&_}
-use mathlib.Core.List.{List, _++_}
+use mathlib.Core.List.{List}
 use mathlib.Core.Logic.{_⊎_, inl, inr}
 use mathlib.Core.Path.{_≡_, refl, sym, _∙_, ap}
 use native.Mathlib.Omega.{arith}
@@ -18,7 +18,7 @@ use Rattle.request_table.specs.Checks.{tableCauses, checkOf}
 use Rattle.request_table.specs.Colliding.{Colliding, collides-says, collides-of}
 use Rattle.request_table.specs.Table.{rows, fixed, fixedOffset}
 use Rattle.greedy_rule.specs.NoCollision.{FixedRowsApart}
-use Rattle.greedy_rule.specs.Plan.{fixedCollide, greedyNeed, fixedCauses, needCauses, planCauses, fitOf, planOf}
+use Rattle.greedy_rule.specs.Plan.{fixedCollide, greedyNeed, ownCauses, planCauses, doneAnswer, fitOf, planOf}
 
 -- ---- two fixed rows collide
 
@@ -91,20 +91,20 @@ module _ (g : ℕ) (t : List ℤ) where
       -- A refusal of the checks 1 to 5 is the planner's.
       pub check-stands : (checkOf g t space room .number ≡ 0 → ⊥) → checkOf g t space room ≡ planOf g t space room
       unfolding checkOf planOf
-      check-stands h = refused-stands numberOf (tableCauses g t space room) _ (doneWith 0) _ refl h
+      check-stands h = refused-stands numberOf (tableCauses g t space room) (ownCauses g t space) (doneWith 0) (doneAnswer g t) refl h
 
       -- Past them, two fixed rows that collide are the refusal,
       pub pair-refused : Checked g t space room → pairBelow (fixedCollide g t) (rows t) ≡ true
           → refusedPair fixedRowsCollide (pairFirst (fixedCollide g t) (rows t)) (pairSecond (fixedCollide g t) (rows t)) ≡ planOf g t space room
       unfolding planOf
       pair-refused c e =
-          sym (follows-more (tableCauses g t space room) _ _ (none-refuses t room g space c) ∙ rw (e, firstCause))
+          sym (follows-more (tableCauses g t space room) (ownCauses g t space) (doneAnswer g t) (none-refuses t room g space c) ∙ rw (e, firstCause))
 
       -- and where there are none, the need decides.
       pub need-decides : Checked g t space room → pairBelow (fixedCollide g t) (rows t) ≡ false → fitOf g t space ≡ planOf g t space room
       unfolding planOf fitOf
       need-decides c e =
-          sym (follows-more (tableCauses g t space room) (fixedCauses g t ++ needCauses g t space) (doneWith (greedyNeed g t)) (none-refuses t room g space c) ∙ rw (e, firstCause))
+          sym (follows-more (tableCauses g t space room) (ownCauses g t space) (doneAnswer g t) (none-refuses t room g space c) ∙ rw (e, firstCause))
 
       -- What the answer may be.
       pub data Outcome : Type 0 where
@@ -137,7 +137,7 @@ module _ (g : ℕ) (t : List ℤ) where
       pub done-says : planOf g t space room .number ≡ 0 → Done
       unfolding planOf checkOf
       done-says e =
-          let n = passed numberOf (planCauses g t space room) (doneWith (greedyNeed g t)) plan-refuses e .0 in
+          let n = passed numberOf (planCauses g t space room) (doneAnswer g t) plan-refuses e .0 in
           let five : NoneHolds (tableCauses g t space room) = (n .0, (n .1 .0, (n .1 .1 .0, (n .1 .1 .1 .0, (n .1 .1 .1 .1 .0, tt))))) in
           record {
             checks = checked t room g space (ap numberOf (follows (tableCauses g t space room) (doneWith 0) five));

@@ -3,10 +3,10 @@
 use Prim.Native.Nat.{ℕ, _<_, _≤_}
 use mathlib.Core.List.{List}
 use mathlib.Core.Logic.{_⊎_, inl, inr, _↔_}
-use mathlib.Core.Path.{_≡_, refl, sym, _∙_, ap}
+use mathlib.Core.Path.{_≡_, refl, ap}
 use native.Mathlib.Omega.{arith}
 use lib.IntN.{ℤ}
-use Rattle.answer.specs.Answer.{done, fixedRowsCollide, needExceedsSpace, doneWith, refusedPair, refusedNeed}
+use Rattle.answer.specs.Answer.{done, fixedRowsCollide, needExceedsSpace, doneWith, refusedNeed}
 use Rattle.request_table.specs.CheckLaws.{numberOf}
 use Rattle.request_table.specs.Limits.{greatestSpace}
 use Rattle.request_table.specs.Table.{rows}

@@ -36,17 +36,25 @@ fixedCauses g t =
 abbrev pub needCauses : ℕ → List ℤ → ℕ → List (Cause Answer)
 needCauses g t space = (ltb space (greedyNeed g t) ⇒ A.refusedNeed A.needExceedsSpace (greedyNeed g t)) ∷ []
 
+-- 6, then 7.
+abbrev pub ownCauses : ℕ → List ℤ → ℕ → List (Cause Answer)
+ownCauses g t space = fixedCauses g t ++ needCauses g t space
+
 -- 1 to 7.
 abbrev pub planCauses : ℕ → List ℤ → ℕ → ℕ → List (Cause Answer)
-planCauses g t space room = tableCauses g t space room ++ (fixedCauses g t ++ needCauses g t space)
+planCauses g t space room = tableCauses g t space room ++ ownCauses g t space
+
+-- Where no cause holds: done, with the need.
+abbrev pub doneAnswer : ℕ → List ℤ → Answer
+doneAnswer g t = A.doneWith (greedyNeed g t)
 
 -- The answer past the checks 1 to 6.
 unfoldable pub fitOf : ℕ → List ℤ → ℕ → Answer
-fitOf g t space = firstCause (needCauses g t space) (A.doneWith (greedyNeed g t))
+fitOf g t space = firstCause (needCauses g t space) (doneAnswer g t)
 
 -- The planner's answer: the first of 1 to 7 that holds, else done with the need.
 unfoldable pub planOf : ℕ → List ℤ → ℕ → ℕ → Answer
-planOf g t space room = firstCause (planCauses g t space room) (A.doneWith (greedyNeed g t))
+planOf g t space room = firstCause (planCauses g t space room) (doneAnswer g t)
 
 -- The answer table in the end: where the answer is done, the first entries are the plan and the rest stays; on every refusal all stays.
 unfoldable pub plannedTable : ℕ → List ℤ → ℕ → List ℤ → List ℤ
