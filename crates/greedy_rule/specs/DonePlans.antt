@@ -1,5 +1,5 @@
 -- Law: what a done answer of the planner promises, and what a refusal leaves, written out over the answer and the final table.
-use Prim.Native.Nat.{ℕ, _<_, _≤_}
+use Prim.Native.Nat.{ℕ, _%_, _<_, _≤_}
 use mathlib.Core.Bool.{true, false}
 use mathlib.Core.List.{List}
 use mathlib.Core.Logic.{_⊎_}
@@ -16,6 +16,7 @@ use Rattle.request_table.specs.Table.{rows, fixed, fixedOffset}
 use Rattle.greedy_rule.specs.Answers.{done-says, done-of}
 use Rattle.greedy_rule.specs.Greedy.{greedyPlan}
 use Rattle.greedy_rule.specs.NoCollision.{no-rows-collide}
+use Rattle.greedy_rule.specs.OnGrid.{plan-on-grid}
 use Rattle.greedy_rule.specs.Plan.{greedyNeed, planOf, plannedTable}
 use Rattle.greedy_rule.specs.LowestPlace.{TakesLowest, rest-takes-lowest}
 use Rattle.greedy_rule.specs.PlanByPosition.{fixed-rows-stay}
@@ -32,6 +33,8 @@ pub record DonePlan (g : ℕ) (t : List ℤ) (space : ℕ) (lent : List ℤ) : T
   -- fixed rows have their own offsets; each other takes the lowest
   pub fixed-stay : (r : ℕ) → r < rows t → fixed t r ≡ true → greedyPlan g t r ≡ fixedOffset t r
   pub others : (r : ℕ) → r < rows t → fixed t r ≡ false → TakesLowest g t r
+  -- every offset is on the grid
+  pub aligned : (r : ℕ) → r < rows t → greedyPlan g t r % g ≡ 0
   -- no two rows collide
   pub apart : (a b : ℕ) → a < rows t → b < rows t → (a ≡ b → ⊥) → Colliding (bufferAt g t a (greedyPlan g t a)) (bufferAt g t b (greedyPlan g t b)) → ⊥
   -- the need is at least every nonempty row's end, and is one of them, or 0
@@ -58,6 +61,7 @@ module _ (g : ℕ) (t : List ℤ) (space : ℕ) (lent : List ℤ) where
         rest = λ i l. ap (λ (xs : List ℤ). getD xs i (pos 0)) q ∙ replaced-past (λ r. pos (greedyPlan g t r)) (rows t) lent (pos 0) i l;
         fixed-stay = fixed-rows-stay g t;
         others = rest-takes-lowest g t;
+        aligned = plan-on-grid g t (d .checks .goodRows);
         apart = no-rows-collide g t (d .apart);
         need-most = need-bounds g t (greedyPlan g t);
         need-taken = need-is-one g t (greedyPlan g t);

@@ -9,3 +9,4 @@ pub mod Answers
 pub mod PlanFits
 pub mod DonePlans
 pub mod Demand2
+pub mod OnGrid

@@ -1,12 +1,13 @@
 -- Law: a row that takes the lowest offset is free of the rows already placed, and at no lower offset is it.
-use Prim.Native.Nat.{ℕ, _<_, _≤_}
+use Prim.Native.Nat.{ℕ, zero, suc, _+_, _<_, _≤_}
 use mathlib.Core.Bool.{Bool, true, false, not, _&&_}
 use mathlib.Core.List.{List}
+use mathlib.Core.Logic.{_⊎_, inl, inr}
 use mathlib.Core.Path.{_≡_, refl}
 use native.Mathlib.Omega.{arith}
 use borrow.Author.Tests.{not-true, not-false}
 use lib.IntN.{ℤ}
-use Rattle.bounded.specs.Boolean.{both, both-hold, contrary}
+use Rattle.bounded.specs.Boolean.{both, both-hold, contrary, lt-or-le}
 use Rattle.bounded.specs.First.{firstIn, IsLeast, least-is, none-holds, none-found, found}
 use Rattle.bounded.specs.Greatest.{greatest-bound}
 use Rattle.request_table.specs.Buffers.{bufferAt, collides, end, endOrZero}
@@ -71,3 +72,32 @@ module _ (g : ℕ) (t : List ℤ) (s : Placing) (r : ℕ) where
     clear = free-says (lowest g t s r) (lowest-is .passes);
     blocked = λ q l. not-free-says q (lowest-is .below q l);
   }
+
+  -- A placed row that ends at an offset.
+  pub record EndsAt (o : ℕ) : Type 0 where
+    pub row : ℕ
+    pub within : row < rows t
+    pub placed : s .placed row ≡ true
+    pub there : end (bufferAt g t row (s .offset row)) ≡ o
+
+  -- The lowest offset is 0 or the end of a placed row.
+  pub lowest-is-an-end : (lowest g t s r ≡ 0) ⊎ EndsAt (lowest g t s r)
+  lowest-is-an-end = go (lowest g t s r) lowest-free
+    where
+      go : (o : ℕ) → LowestFree g t s r o → (o ≡ 0) ⊎ EndsAt o
+      go zero f = inl refl
+      go (suc q) f =
+          let b = f .blocked q (omega arith) in
+          inr (record { row = b .row; within = b .within; placed = b .placed; there = ends b (lt-or-le (suc q) (end (bufferAt g t (b .row) (s .offset (b .row))))) })
+        where
+          ends : (b : Blocker g t s r q) → (suc q < end (bufferAt g t (b .row) (s .offset (b .row)))) ⊎ (end (bufferAt g t (b .row) (s .offset (b .row))) ≤ suc q)
+              → end (bufferAt g t (b .row) (s .offset (b .row))) ≡ suc q
+          ends b (inl l) = let c = b .collides in absurd (f .clear (b .row) (b .within) (b .placed) (record {
+            a-nonempty = c .a-nonempty;
+            b-nonempty = c .b-nonempty;
+            a-begun = c .a-begun;
+            b-begun = c .b-begun;
+            a-below = l;
+            b-below = omega (arith, c .b-below);
+          }))
+          ends b (inr l) = let c = b .collides in omega (arith, c .a-below)

@@ -126,3 +126,11 @@ good-offset g x e f =
     let a = both (goodLife x) (goodOffset g x) (both (goodSize x) _ e .1) .1 in
     let b = rw f at a in
     leb-true _ _ (both (onGrid g (x .offset .0)) _ b .1)
+
+-- The offset of a good fixed row is a multiple of the grid.
+pub good-on-grid : (g : ℕ) (x : Request) → good g x ≡ true → x .fixed ≡ true → x .offset .0 % g ≡ 0
+unfolding good
+good-on-grid g x e f =
+    let a = both (goodLife x) (goodOffset g x) (both (goodSize x) _ e .1) .1 in
+    let b = rw f at a in
+    eqb-true _ _ (both (onGrid g (x .offset .0)) _ b .0)

@@ -1,7 +1,7 @@
 -- The occupied size is the least multiple of the grid that holds the size.
 use Prim.Native.Nat.{ℕ, zero, suc, _+_, _-_, _/_, _%_, _<_, _≤_}
-use mathlib.Core.Path.{_≡_}
-use native.Mathlib.Nat.{div-add-mod', mod-lt, mul-mod-left, mul-zero, zero-mul, div-eq-of-lt, div-mul-le-self}
+use mathlib.Core.Path.{_≡_, _∙_}
+use native.Mathlib.Nat.{div-add-mod', mod-lt, mul-mod-left, mul-zero, zero-mul, div-eq-of-lt, div-mul-le-self, add-mul-mod-self-right}
 use native.Mathlib.Omega.{arith}
 use Rattle.request_table.specs.Buffers.{occupied}
 
@@ -35,3 +35,8 @@ occupied-some g size h l = omega (arith, occupied-holds g size h)
 pub occupied-most : (g size : ℕ) → occupied g size ≤ size + g
 unfolding occupied
 occupied-most g size = omega (arith, div-mul-le-self (size + (g - 1)) g)
+
+-- A buffer that starts on the grid ends on it.
+pub end-on-grid : (g size o : ℕ) → o % g ≡ 0 → (o + occupied g size) % g ≡ 0
+unfolding occupied
+end-on-grid g size o e = add-mul-mod-self-right o _ g ∙ e
