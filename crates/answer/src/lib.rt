@@ -82,35 +82,26 @@ impl Answer {
     pub fn refused_at(number: u32, a: u32) -> Answer
         ensures { λ r. ⌜ r ≡ refusedAt number a ⌝ }
     {
-        Answer {
-            number,
-            a,
-            b: 0,
-            need: 0,
-        }
+        let mut answer = Answer::refused(number);
+        answer.a = a;
+        answer
     }
 
     // Refused for two rows.
     pub fn refused_pair(number: u32, a: u32, b: u32) -> Answer
         ensures { λ r. ⌜ r ≡ refusedPair number a b ⌝ }
     {
-        Answer {
-            number,
-            a,
-            b,
-            need: 0,
-        }
+        let mut answer = Answer::refused_at(number, a);
+        answer.b = b;
+        answer
     }
 
     // Refused for a need, which is carried.
     pub fn refused_need(number: u32, need: u64) -> Answer
         ensures { λ r. ⌜ r ≡ refusedNeed number need ⌝ }
     {
-        Answer {
-            number,
-            a: 0,
-            b: 0,
-            need,
-        }
+        let mut answer = Answer::refused(number);
+        answer.need = need;
+        answer
     }
 }

@@ -17,11 +17,6 @@ lt-or-le a b = go (decLt a b)
     go (yes h) = inl h
     go (no f) = inr (omega arith)
 
--- A test holds or it does not, and says which.
-pub holds-or-not : (x : Bool) → (x ≡ true) ⊎ (x ≡ false)
-holds-or-not true = inl refl
-holds-or-not false = inr refl
-
 -- True is not false, at any conclusion.
 pub contrary {ℓ} : {A : Type ℓ} {x : Bool} → x ≡ true → x ≡ false → A
 contrary p q = absurd (let z : _≡_ {A = ℕ} 0 1 = cc in omega arith)
@@ -35,11 +30,6 @@ both false y e = contrary e refl
 pub both-hold : (x y : Bool) → x ≡ true → y ≡ true → x && y ≡ true
 both-hold true y p q = q
 both-hold false y p q = p
-
--- A conjunction that fails although its first half holds.
-pub second-fails : (x y : Bool) → x ≡ true → x && y ≡ false → y ≡ false
-second-fails true y p e = e
-second-fails false y p e = contrary p refl
 
 -- A disjunction that holds has a half that does.
 pub either : (x y : Bool) → x || y ≡ true → (x ≡ true) ⊎ (y ≡ true)

@@ -42,16 +42,6 @@ module _ {A : Type 0} where
   follows-more (c ∷ cs) ds d f = rw (f .0, firstCause) (follows-more cs ds d (f .1))
 
 module _ {A : Type 0} (number : A → ℕ) where
-  -- Answer 0 comes exactly when no cause holds and what follows is answer 0 itself.
-  pub passed : (cs : List (Cause A)) (d : A) → AllRefuse number cs → number (firstCause cs d) ≡ 0 → NoneHolds cs × (number d ≡ 0)
-  passed [] d f e = (tt, e)
-  passed (c ∷ cs) d f e = go (c .holds) refl e (λ h. passed cs d (f .1) h)
-    where
-      go : (b : Bool) → c .holds ≡ b → number (elim b [ true ↦ c .gives | false ↦ firstCause cs d ]) ≡ 0
-          → (number (firstCause cs d) ≡ 0 → NoneHolds cs × (number d ≡ 0)) → NoneHolds (c ∷ cs) × (number d ≡ 0)
-      go true q h k = absurd (f .0 h)
-      go false q h k = ((q, k h .0), k h .1)
-
   -- A refusal of the first list stands, whatever follows.
   pub refused-stands : (cs ds : List (Cause A)) (d e : A) → number d ≡ 0 → (number (firstCause cs d) ≡ 0 → ⊥) → firstCause cs d ≡ firstCause (cs ++ ds) e
   refused-stands [] ds d e z r = absurd (r z)
@@ -62,3 +52,13 @@ module _ {A : Type 0} (number : A → ℕ) where
           → _≡_ {A = A} (elim b [ true ↦ c .gives | false ↦ firstCause cs d ]) (elim b [ true ↦ c .gives | false ↦ firstCause (cs ++ ds) e ])
       go true q h k = refl
       go false q h k = k h
+
+  -- Answer 0 comes exactly when no cause holds and what follows is answer 0 itself.
+  pub passed : (cs : List (Cause A)) (d : A) → AllRefuse number cs → number (firstCause cs d) ≡ 0 → NoneHolds cs × (number d ≡ 0)
+  passed [] d f e = (tt, e)
+  passed (c ∷ cs) d f e = go (c .holds) refl e (λ h. passed cs d (f .1) h)
+    where
+      go : (b : Bool) → c .holds ≡ b → number (elim b [ true ↦ c .gives | false ↦ firstCause cs d ]) ≡ 0
+          → (number (firstCause cs d) ≡ 0 → NoneHolds cs × (number d ≡ 0)) → NoneHolds (c ∷ cs) × (number d ≡ 0)
+      go true q h k = absurd (f .0 h)
+      go false q h k = ((q, k h .0), k h .1)

@@ -67,23 +67,6 @@ module _ (p : ℕ → Bool) where
   unfolding firstIn
   first-is s n l = subst (λ (m : ℕ). IsFirst p s m (firstFrom p s (n - s))) (omega arith) (from-is (n - s) s)
 
-  -- There is only one such index.
-  pub one-first : (s n r q : ℕ) → IsFirst p s n r → IsFirst p s n q → r ≡ q
-  one-first s n r q x y = le-antisymm (no-later r q x y) (no-later q r y x)
-    where
-      no-later : (r q : ℕ) → IsFirst p s n r → IsFirst p s n q → r ≤ q
-      no-later r q x y =
-          ⊎-elim
-          (λ l. contrary (y .at (omega (arith, x .high))) (x .before q (y .low) l))
-          (λ l. l)
-          (lt-or-le q r)
-
-  -- A number that passes and has none below it that does is what the search gives, wherever the search ends past it.
-  pub least-first : (n r : ℕ) → r ≤ n → IsLeast p r → firstIn p 0 n ≡ r
-  least-first n r l x =
-      one-first 0 n _ r (first-is 0 n zero-le)
-      (record { low = zero-le; high = l; before = λ k m q. x .below k q; at = λ q. x .passes })
-
   -- Where the bound itself passes, the search gives the least number that does.
   pub least-is : (n : ℕ) → p n ≡ true → IsLeast p (firstIn p 0 n)
   least-is n e = let f = first-is 0 n zero-le in record {

@@ -11,7 +11,7 @@ pub enum Pair {
 }
 
 // Whether both rows are fixed and collide, each at its own offset.
-pub fn fixed_collide(grid: u32, table: &[i32], a: Row, b: Row) -> bool
+fn fixed_collide(grid: u32, table: &[i32], a: Row, b: Row) -> bool
     ensures { λ r. ⌜ r ≡ fixedCollide grid (now (table .entry)) (a .0) (b .0) ⌝ }
 {
     let first = requests::request_at(table, a);

@@ -67,13 +67,6 @@ module _ (g : ℕ) (t : List ℤ) where
   no-clash e a b l m p q c =
       contrary (clash-says a b (record { rising = l; within = m; a-fixed = p; b-fixed = q; collides = c })) (no-pair (fixedCollide g t) (rows t) e a b l m)
 
-  clash-found : (a b : ℕ) → FixedClash g t a b → pairBelow (fixedCollide g t) (rows t) ≡ true
-  clash-found a b c = go (pairBelow (fixedCollide g t) (rows t)) refl
-    where
-      go : (x : Bool) → pairBelow (fixedCollide g t) (rows t) ≡ x → x ≡ true
-      go true e = refl
-      go false e = contrary (clash-says a b c) (no-pair (fixedCollide g t) (rows t) e a b (c .rising) (c .within))
-
   -- ---- the answer, past the checks 1 to 5
 
   module _ (space : ℕ) where

@@ -11,15 +11,14 @@ use Rattle.answer.specs.Answer as A
 use Rattle.bounded.specs.Causes.{Cause, _⇒_, firstCause}
 use Rattle.bounded.specs.Pair.{pairBelow, pairFirst, pairSecond}
 use Rattle.bounded.specs.Replaced.{replaced}
-use Rattle.request_table.specs.Buffers.{bufferAt, collides, need}
+use Rattle.request_table.specs.Buffers.{collideIn, need}
 use Rattle.request_table.specs.Checks.{tableCauses}
 use Rattle.request_table.specs.Table.{rows, fixed, fixedOffset}
 use Rattle.greedy_rule.specs.Greedy.{greedyPlan}
 
 -- Two fixed rows collide, each at its own offset.
 unfoldable pub fixedCollide : ℕ → List ℤ → ℕ → ℕ → Bool
-fixedCollide g t a b =
-    (fixed t a && fixed t b) && collides (bufferAt g t a (fixedOffset t a)) (bufferAt g t b (fixedOffset t b))
+fixedCollide g t a b = (fixed t a && fixed t b) && collideIn g t (fixedOffset t) a b
 
 -- The need of the greedy plan.
 unfoldable pub greedyNeed : ℕ → List ℤ → ℕ

@@ -1,5 +1,4 @@
--- Law: in the greedy plan each row keeps the offset that it took at its place: a fixed row its own, any other the lowest at which it collides with no row
--- of a lower place; those have their offsets of the plan then already.
+-- Law: in the greedy plan each row keeps the offset that it took at its place in the order, and so fixed rows, empty ones too, have their own.
 use Prim.Native.Nat.{ℕ, zero, suc, _<_, _≤_}
 use mathlib.Core.Bool.{true}
 use mathlib.Core.List.{List}

@@ -31,6 +31,22 @@ pub record Checked (g : ℕ) (t : List ℤ) (space room : ℕ) : Type 0 where
 abbrev pub numberOf : Answer → ℕ
 numberOf x = x .number
 
+module _ (g : ℕ) (t : List ℤ) (space : ℕ) where
+  -- The checks 4 and 5, as the code goes through them: the space first,
+  pub space-refused : greatestSpace < space → refused spaceTooLarge ≡ contentOf g t space
+  unfolding contentOf
+  space-refused l = rw (lt-ltb _ _ l, firstCause)
+
+  -- then the lowest bad row,
+  pub row-refused : space ≤ greatestSpace → firstIn (badRow g t) 0 (rows t) < rows t → refusedAt badRowNumber (firstIn (badRow g t) 0 (rows t)) ≡ contentOf g t space
+  unfolding contentOf holdsBelow
+  row-refused s l = rw (le-ltb _ _ s, firstCause, lt-ltb _ _ l, firstCause)
+
+  -- and where there is none, both pass.
+  pub content-passed : space ≤ greatestSpace → rows t ≤ firstIn (badRow g t) 0 (rows t) → doneWith 0 ≡ contentOf g t space
+  unfolding contentOf holdsBelow
+  content-passed s l = rw (le-ltb _ _ s, firstCause, le-ltb _ _ l, firstCause)
+
 module _ (t : List ℤ) (room : ℕ) where
   shape-refuses : AllRefuse numberOf (shapeCauses t room)
   shape-refuses = (omega arith, (omega arith, (omega arith, tt)))
@@ -76,19 +92,3 @@ module _ (t : List ℤ) (room : ℕ) where
     none-refuses c =
         let n = none-of (c .shaped) in
         (n .0, (n .1 .0, (n .1 .1 .0, (le-ltb _ _ (c .allowed), (none-found (badRow g t) (rows t) (λ r l. ap not (c .goodRows r l)), tt)))))
-
-module _ (g : ℕ) (t : List ℤ) (space : ℕ) where
-  -- The checks 4 and 5, as the code goes through them: the space first,
-  pub space-refused : greatestSpace < space → refused spaceTooLarge ≡ contentOf g t space
-  unfolding contentOf
-  space-refused l = rw (lt-ltb _ _ l, firstCause)
-
-  -- then the lowest bad row,
-  pub row-refused : space ≤ greatestSpace → firstIn (badRow g t) 0 (rows t) < rows t → refusedAt badRowNumber (firstIn (badRow g t) 0 (rows t)) ≡ contentOf g t space
-  unfolding contentOf holdsBelow
-  row-refused s l = rw (le-ltb _ _ s, firstCause, lt-ltb _ _ l, firstCause)
-
-  -- and where there is none, both pass.
-  pub content-passed : space ≤ greatestSpace → rows t ≤ firstIn (badRow g t) 0 (rows t) → doneWith 0 ≡ contentOf g t space
-  unfolding contentOf holdsBelow
-  content-passed s l = rw (le-ltb _ _ s, firstCause, le-ltb _ _ l, firstCause)

@@ -27,7 +27,13 @@ pub record SharedByte (a b : Buffer) : Type 0 where
   pub to-b : byte < end b
 
 module _ (a b : Buffer) where
-  -- The test says so,
+  -- The test holds where it is so,
+  pub collides-of : Colliding a b → collides a b ≡ true
+  unfolding collides liveTogether shareByte
+  collides-of c =
+      rw (lt-ltb 0 (a .length) (c .a-nonempty), lt-ltb 0 (b .length) (c .b-nonempty), le-leb (a .first .0) (b .last .0) (c .a-begun), le-leb (b .first .0) (a .last .0) (c .b-begun), lt-ltb (a .offset .0) (end b) (c .a-below), lt-ltb (b .offset .0) (end a) (c .b-below))
+
+  -- and says so where it holds.
   pub collides-says : collides a b ≡ true → Colliding a b
   unfolding collides liveTogether shareByte
   collides-says e =
@@ -44,12 +50,6 @@ module _ (a b : Buffer) where
         a-below = ltb-true (a .offset .0) (end b) (s .1);
         b-below = ltb-true (b .offset .0) (end a) (s .0);
       }
-
-  -- and holds where it is so.
-  pub collides-of : Colliding a b → collides a b ≡ true
-  unfolding collides liveTogether shareByte
-  collides-of c =
-      rw (lt-ltb 0 (a .length) (c .a-nonempty), lt-ltb 0 (b .length) (c .b-nonempty), le-leb (a .first .0) (b .last .0) (c .a-begun), le-leb (b .first .0) (a .last .0) (c .b-begun), lt-ltb (a .offset .0) (end b) (c .a-below), lt-ltb (b .offset .0) (end a) (c .b-below))
 
   -- It fails where it is not so,
   pub apart : (Colliding a b → ⊥) → collides a b ≡ false

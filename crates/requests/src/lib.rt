@@ -68,7 +68,7 @@ pub fn occupied_size(grid: u32, size: u32) -> u64
 }
 
 // Whether the offset is a multiple of the grid.
-pub fn on_grid(grid: u32, offset: Offset) -> bool
+fn on_grid(grid: u32, offset: Offset) -> bool
     ensures { λ r. ⌜ r ≡ onGrid grid (offset .0) ⌝ }
 {
     if grid == 0 {
@@ -78,7 +78,7 @@ pub fn on_grid(grid: u32, offset: Offset) -> bool
 }
 
 // A good row: size, life and offset are in their ranges.
-pub fn is_good(grid: u32, request: Request) -> bool
+fn is_good(grid: u32, request: Request) -> bool
     ensures { λ r. ⌜ r ≡ good grid request ⌝ }
 {
     let size = request.size <= GREATEST_SPACE;
@@ -88,7 +88,7 @@ pub fn is_good(grid: u32, request: Request) -> bool
 }
 
 // The lowest row that is not good, else the number of rows.
-pub fn lowest_bad_row(grid: u32, table: &[i32]) -> Row
+fn lowest_bad_row(grid: u32, table: &[i32]) -> Row
     ensures { λ r. ⌜ r .0 ≡ firstIn (badRow grid (now (table .entry))) 0 (rowsOf (now (table .entry))) ⌝ }
 {
     let n = table.len() / ROW_WORDS;
@@ -159,19 +159,20 @@ fn check_shape(table: &[i32], room: usize) -> Answer
     Answer::done(0)
 }
 
-// The checks 4 and 5: the space and the rows.
+// The checks 4 and 5: the space, which is told with no place, and the rows.
 fn check_content(grid: u32, table: &[i32], space: u32) -> Answer
     requires { ⌜ rowsOf (now table) ≤ greatestRows ⌝ }
     ensures { λ r. ⌜ r ≡ contentOf grid (now (table .entry)) space ⌝ }
 {
     let bad = lowest_bad_row(grid, table);
+    let place = bad.0 as u32;
     let flawed = bad.0 < table.len() / ROW_WORDS;
     let too_large = GREATEST_SPACE < space;
     if too_large {
-        return Answer::refused(Answer::SPACE_TOO_LARGE);
+        return Answer::refused_at(Answer::SPACE_TOO_LARGE, 0);
     }
     if flawed {
-        return Answer::refused_at(Answer::BAD_ROW, bad.0 as u32);
+        return Answer::refused_at(Answer::BAD_ROW, place);
     }
     Answer::done(0)
 }
