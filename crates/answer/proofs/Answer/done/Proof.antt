@@ -1,0 +1,10 @@
+-- `answer::Answer::done` meets its contract.
+use mathlib.Core.Path.{refl}
+use Rattle.answer.proofs.Answer.done.Statement.{statement}
+use Rattle.answer.proofs.Answer.done.Tie as tie
+
+returns : tie.Need-returns
+returns c = refl
+
+pub done-spec : {M : Type 1} → statement M
+done-spec = tie.close (tie.spec returns)

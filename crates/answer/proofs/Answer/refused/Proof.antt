@@ -1,0 +1,10 @@
+-- `answer::Answer::refused` meets its contract.
+use mathlib.Core.Path.{refl}
+use Rattle.answer.proofs.Answer.refused.Statement.{statement}
+use Rattle.answer.proofs.Answer.refused.Tie as tie
+
+returns : tie.Need-returns
+returns c = refl
+
+pub refused-spec : {M : Type 1} → statement M
+refused-spec = tie.close (tie.spec returns)
