@@ -1,0 +1,172 @@
+// The plan inspector: judges a plan that anyone may have proposed, one offset for each row of the request table (document 01, "The desk's order of
+// checks"). All is read where it lies; nothing is written.
+ghost use Prim.Native.Nat.{_≤_};
+ghost use mathlib.Core.Path.{_≡_};
+ghost use Rattle.bounded.specs.First.{firstIn};
+ghost use Rattle.request_table.specs.Buffers.{bufferAt, endOrZero};
+ghost use Rattle.request_table.specs.Limits.{grid as gridOf, greatestRows};
+ghost use Rattle.request_table.specs.Table.{rows as rowsOf};
+ghost use Rattle.inspection_rule.specs.Inspect.{proposed, moved, offGrid, proposedNeed, proposedCollide, pairOf, placedOf, proposalOf, inspectOf};
+use answer::Answer;
+use request_table::Buffer;
+use units::Offset;
+use units::Row;
+
+// The offset that is proposed for a row. A negative one stands above every limit, and past the proposal it is 0.
+pub fn proposed_at(offsets: &[i32], row: Row) -> Offset
+    ensures { λ r. ⌜ r .0 ≡ proposed (now (offsets .entry)) (row .0) ⌝ }
+{
+    Offset(words::natural(offsets, row.0) as u64)
+}
+
+// Whether the row is fixed and was moved.
+fn is_moved(table: &[i32], offsets: &[i32], row: Row) -> bool
+    ensures { λ r. ⌜ r ≡ moved (now (table .entry)) (now (offsets .entry)) (row .0) ⌝ }
+{
+    let request = requests::request_at(table, row);
+    let place = proposed_at(offsets, row);
+    request.fixed & (place.0 != request.offset.0)
+}
+
+// The lowest fixed row that was moved, else the number of rows.
+fn lowest_moved(table: &[i32], offsets: &[i32]) -> Row
+    ensures { λ r. ⌜ r .0 ≡ firstIn (moved (now (table .entry)) (now (offsets .entry))) 0 (rowsOf (now (table .entry))) ⌝ }
+{
+    let n = table.len() / requests::ROW_WORDS;
+    let mut row = Row(0);
+    while row.0 < n {
+        if is_moved(table, offsets, row) {
+            return row;
+        }
+        row = Row(row.0 + 1);
+    }
+    row
+}
+
+// Whether the proposed offset is negative or not a multiple of the grid.
+fn is_off_grid(grid: u32, offsets: &[i32], row: Row) -> bool
+    ensures { λ r. ⌜ r ≡ offGrid grid (now (offsets .entry)) (row .0) ⌝ }
+{
+    words::is_negative(offsets, row.0) | !requests::on_grid(grid, proposed_at(offsets, row))
+}
+
+// The lowest row with such an offset, else the number of rows.
+fn lowest_off_grid(grid: u32, table: &[i32], offsets: &[i32]) -> Row
+    ensures { λ r. ⌜ r .0 ≡ firstIn (offGrid grid (now (offsets .entry))) 0 (rowsOf (now (table .entry))) ⌝ }
+{
+    let n = table.len() / requests::ROW_WORDS;
+    let mut row = Row(0);
+    while row.0 < n {
+        if is_off_grid(grid, offsets, row) {
+            return row;
+        }
+        row = Row(row.0 + 1);
+    }
+    row
+}
+
+// The row's buffer at its proposed offset.
+fn buffer_of(grid: u32, table: &[i32], offsets: &[i32], row: Row) -> Buffer
+    ensures { λ r. ⌜ r ≡ bufferAt grid (now (table .entry)) (row .0) (proposed (now (offsets .entry)) (row .0)) ⌝ }
+{
+    requests::buffer_at(grid, requests::request_at(table, row), proposed_at(offsets, row))
+}
+
+// The end of the row's span, in 64 bits, which no proposed offset and no size can pass; an empty row counts for nothing.
+fn end_of(grid: u32, table: &[i32], offsets: &[i32], row: Row) -> u64
+    ensures { λ r. ⌜ r ≡ endOrZero (bufferAt grid (now (table .entry)) (row .0) (proposed (now (offsets .entry)) (row .0))) ⌝ }
+{
+    let buffer = buffer_of(grid, table, offsets, row);
+    if 0 < buffer.length {
+        return buffer.offset.0 + buffer.length;
+    }
+    0
+}
+
+// The need of the proposed plan: the greatest end of a nonempty row.
+fn need_of(grid: u32, table: &[i32], offsets: &[i32]) -> u64
+    ensures { λ r. ⌜ r ≡ proposedNeed grid (now (table .entry)) (now (offsets .entry)) ⌝ }
+{
+    let n = table.len() / requests::ROW_WORDS;
+    let mut need = 0;
+    let mut row = Row(0);
+    while row.0 < n {
+        let end = end_of(grid, table, offsets, row);
+        if need < end {
+            need = end;
+        }
+        row = Row(row.0 + 1);
+    }
+    need
+}
+
+// The check 10: both scans end at once, at the first pair of rows that collide, which becomes the answer's two places.
+fn judge_pairs(grid: u32, table: &[i32], offsets: &[i32], need: u64) -> Answer
+    requires { ⌜ rowsOf (now table) ≤ greatestRows ⌝ }
+    requires { ⌜ need ≡ proposedNeed grid (now table) (now offsets) ⌝ }
+    ensures { λ r. ⌜ r ≡ pairOf grid (now (table .entry)) (now (offsets .entry)) ⌝ }
+{
+    let n = table.len() / requests::ROW_WORDS;
+    let mut answer = Answer::done(need);
+    let mut a = Row(0);
+    'scan: while a.0 < n {
+        let first = buffer_of(grid, table, offsets, a);
+        let mut b = Row(a.0 + 1);
+        while b.0 < n {
+            if requests::collide(first, buffer_of(grid, table, offsets, b)) {
+                answer = Answer::refused_pair(Answer::ROWS_COLLIDE, a.0 as u32, b.0 as u32);
+                break 'scan;
+            }
+            b = Row(b.0 + 1);
+        }
+        a = Row(a.0 + 1);
+    }
+    answer
+}
+
+// The checks 7 and 10.
+fn judge_plan(grid: u32, table: &[i32], space: u32, offsets: &[i32]) -> Answer
+    requires { ⌜ rowsOf (now table) ≤ greatestRows ⌝ }
+    ensures { λ r. ⌜ r ≡ placedOf grid (now (table .entry)) space (now (offsets .entry)) ⌝ }
+{
+    let need = need_of(grid, table, offsets);
+    if (space as u64) < need {
+        return Answer::refused_need(Answer::NEED_EXCEEDS_SPACE, need);
+    }
+    judge_pairs(grid, table, offsets, need)
+}
+
+// The checks 8, 9, 7 and 10.
+fn judge_offsets(grid: u32, table: &[i32], space: u32, offsets: &[i32]) -> Answer
+    requires { ⌜ rowsOf (now table) ≤ greatestRows ⌝ }
+    ensures { λ r. ⌜ r ≡ proposalOf grid (now (table .entry)) space (now (offsets .entry)) ⌝ }
+{
+    let n = table.len() / requests::ROW_WORDS;
+    let shifted = lowest_moved(table, offsets);
+    if shifted.0 < n {
+        return Answer::refused_at(Answer::FIXED_ROW_MOVED, shifted.0 as u32);
+    }
+    let uneven = lowest_off_grid(grid, table, offsets);
+    if uneven.0 < n {
+        return Answer::refused_at(Answer::BAD_OFFSET, uneven.0 as u32);
+    }
+    judge_plan(grid, table, space, offsets)
+}
+
+// The inspector on any grid.
+pub fn judge(grid: u32, requests: &[i32], space: u32, offsets: &[i32]) -> Answer
+    ensures { λ r. ⌜ r ≡ inspectOf grid (now (requests .entry)) space (now (offsets .entry)) ⌝ }
+{
+    let checked = requests::check(grid, requests, space, offsets.len());
+    if checked.number != Answer::DONE {
+        return checked;
+    }
+    judge_offsets(grid, requests, space, offsets)
+}
+
+// Document 01's inspector. Refused: 1, 2, 3, 4, 5, 8, 9, 7, 10, in that order; accepted: the need.
+pub fn inspect(requests: &[i32], space: u32, offsets: &[i32]) -> Answer
+    ensures { λ r. ⌜ r ≡ inspectOf gridOf (now (requests .entry)) space (now (offsets .entry)) ⌝ }
+{
+    judge(requests::GRID, requests, space, offsets)
+}
