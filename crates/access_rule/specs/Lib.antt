@@ -1,3 +1,5 @@
 pub mod Accesses
 pub mod Run
 pub mod Script
+pub mod GoodAccesses
+pub mod Inside
