@@ -3,3 +3,4 @@ pub mod Run
 pub mod Script
 pub mod GoodAccesses
 pub mod Inside
+pub mod GoodScripts
