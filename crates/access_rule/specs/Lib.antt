@@ -3,4 +3,8 @@ pub mod Run
 pub mod Script
 pub mod GoodAccesses
 pub mod Inside
+pub mod Answers
 pub mod GoodScripts
+pub mod LastWrites
+pub mod OneHolder
+pub mod Demand3
