@@ -8,3 +8,4 @@ pub mod GoodScripts
 pub mod LastWrites
 pub mod OneHolder
 pub mod Demand3
+pub mod FinalTables

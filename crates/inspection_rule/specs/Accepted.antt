@@ -53,15 +53,11 @@ pub record Acceptable (g : ℕ) (t : List ℤ) (space : ℕ) (o : List ℤ) : Ty
 
 -- ---- what the tests say
 
--- Row r is fixed and was moved.
-abbrev pub Moved : List ℤ → List ℤ → ℕ → Type 0
-Moved t o r = (word t r 3 ≡ negsuc 0 → ⊥) × (wordAt o r ≡ word t r 3 → ⊥)
-
 fixed-says : (t : List ℤ) (r : ℕ) → fixed t r ≡ true → word t r 3 ≡ negsuc 0 → ⊥
 unfolding request isMinusOne
 fixed-says t r e q = contrary e (ap (λ (z : ℤ). not (isMinusOne z)) q)
 
-fixed-of : (t : List ℤ) (r : ℕ) → (word t r 3 ≡ negsuc 0 → ⊥) → fixed t r ≡ true
+pub fixed-of : (t : List ℤ) (r : ℕ) → (word t r 3 ≡ negsuc 0 → ⊥) → fixed t r ≡ true
 unfolding request
 fixed-of t r f = go (isMinusOne (word t r 3)) refl
   where
