@@ -70,7 +70,7 @@ same-word : (x y : ℤ) → natural x ≡ natural y → natural y ≤ greatestSp
 same-word x y e l =
     within x greatestSpace (omega arith) (omega arith) .is ∙ ap pos e ∙ sym (within y greatestSpace (omega arith) l .is)
 
-own-offset : (t : List ℤ) (r : ℕ) → fixedOffset t r ≡ natural (word t r 3)
+pub own-offset : (t : List ℤ) (r : ℕ) → fixedOffset t r ≡ natural (word t r 3)
 unfolding request
 own-offset t r = refl
 

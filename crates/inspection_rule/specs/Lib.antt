@@ -1,3 +1,4 @@
 pub mod Inspect
 pub mod Accepted
 pub mod Outcomes
+pub mod PlannerAccepted

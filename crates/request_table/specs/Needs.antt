@@ -3,11 +3,11 @@ use Prim.Native.Nat.{ℕ, _<_, _≤_}
 use mathlib.Core.Bool.{Bool, true, false}
 use mathlib.Core.List.{List}
 use mathlib.Core.Logic.{_⊎_, inl, inr}
-use mathlib.Core.Path.{_≡_, refl, sym, _∙_}
+use mathlib.Core.Path.{_≡_, refl, sym, _∙_, ap}
 use native.Mathlib.Omega.{arith}
 use borrow.Author.Tests.{lt-ltb, ltb-true}
 use lib.IntN.{ℤ}
-use Rattle.bounded.specs.Greatest.{greatest, Taken, greatest-bound, greatest-is-one}
+use Rattle.bounded.specs.Greatest.{greatest, Taken, greatest-bound, greatest-is-one, greatest-same}
 use Rattle.request_table.specs.Table.{rows}
 use Rattle.request_table.specs.Buffers.{bufferAt, end, nonempty, endOrZero, need}
 use Rattle.request_table.specs.declared.Buffer.{Buffer}
@@ -51,3 +51,8 @@ module _ (g : ℕ) (t : List ℤ) (plan : ℕ → ℕ) where
           → (greatest (λ i. endOrZero (bufferAt g t i (plan i))) (rows t) ≡ 0) ⊎ EndsThere g t plan (greatest (λ i. endOrZero (bufferAt g t i (plan i))) (rows t))
       go (inl e) = inl e
       go (inr x) = ends (x .index) _ (x .within) (nonempty (bufferAt g t (x .index) (plan (x .index)))) refl (x .value)
+
+-- Plans that agree on the table's rows need the same.
+pub need-same : (g : ℕ) (t : List ℤ) (plan other : ℕ → ℕ) → ((r : ℕ) → r < rows t → plan r ≡ other r) → need g t plan ≡ need g t other
+unfolding need
+need-same g t plan other f = greatest-same _ _ (rows t) (λ r l. ap (λ (o : ℕ). endOrZero (bufferAt g t r o)) (f r l))
