@@ -116,6 +116,19 @@ holds-same p q n f = same-test _ _ (one p q f) (one q p (λ k l. sym (f k l)))
     one : (p q : ℕ → Bool) → ((k : ℕ) → k < n → p k ≡ q k) → holdsBelow p n ≡ true → holdsBelow q n ≡ true
     one p q f e = let x = found p n e in some-found q n (firstIn p 0 n) (x .0) (sym (f (firstIn p 0 n) (x .0)) ∙ x .1)
 
+-- Two tests that agree from s on and below the bound have the same first index.
+pub first-same : (p q : ℕ → Bool) (s n : ℕ) → ((k : ℕ) → s ≤ k → k < n → p k ≡ q k) → firstIn p s n ≡ firstIn q s n
+unfolding firstIn firstFrom
+first-same p q s n f = go (n - s) s (λ k l m. f k l (omega arith))
+  where
+    go : (d i : ℕ) → ((k : ℕ) → i ≤ k → k < i + d → p k ≡ q k) → firstFrom p i d ≡ firstFrom q i d
+    go zero i h = refl
+    go (suc d) i h = rw (h i (omega arith) (omega arith), firstFrom) (same (q i) (go d (i + 1) (λ k l m. h k (omega arith) (omega arith))))
+      where
+        same : (b : Bool) → firstFrom p (i + 1) d ≡ firstFrom q (i + 1) d → _≡_ {A = ℕ} (elim b [ true ↦ i | false ↦ firstFrom p (i + 1) d ]) (elim b [ true ↦ i | false ↦ firstFrom q (i + 1) d ])
+        same true e = refl
+        same false e = e
+
 -- ---- for loops
 
 module _ (p : ℕ → Bool) (i n : ℕ) where

@@ -5,13 +5,13 @@
 -- For two nested scans, the outer at a and the inner at b: `Outer` and `Inner`, with `inner-out`, `inner-hit` and `outer-out` for their ends.
 use Prim.Native.Nat.{ℕ, _+_, _<_, _≤_}
 use mathlib.Core.Bool.{Bool, true, false}
-use mathlib.Core.Path.{_≡_, subst}
+use mathlib.Core.Path.{_≡_, _∙_, ap, subst}
 use mathlib.Core.Logic.{⊎-elim}
 use native.Mathlib.Omega.{arith}
 use borrow.Author.Tests.{le-ltb, lt-ltb, ltb-true, ltb-false}
 use lib.Dec.{ltb}
 use Rattle.bounded.specs.Boolean.{contrary, lt-or-le}
-use Rattle.bounded.specs.First.{firstIn, holdsBelow, first-is, none-holds, none-found, found, Scan, pass, hit, out}
+use Rattle.bounded.specs.First.{firstIn, holdsBelow, first-is, first-same, none-holds, none-found, found, holds-same, Scan, pass, hit, out}
 
 -- The least b above a and below n with c a b, else n.
 unfoldable pub partner : (ℕ → ℕ → Bool) → ℕ → ℕ → ℕ
@@ -76,6 +76,19 @@ module _ (c : ℕ → ℕ → Bool) (n : ℕ) where
         first-least = λ i j h l m. no-partner i (omega arith) (first-is (hasPartner c n) 0 n (omega arith) .before i (omega arith) h) j l m;
         second-least = λ j l m. y .before j (omega arith) m;
       }
+
+-- Two tests that agree on all pairs below the bound find the same pair.
+module _ (c e : ℕ → ℕ → Bool) (n : ℕ) (f : (a b : ℕ) → a < b → b < n → c a b ≡ e a b) where
+  same-partner : (a : ℕ) → hasPartner c n a ≡ hasPartner e n a
+  unfolding partner hasPartner
+  same-partner a = ap (λ (k : ℕ). ltb k n) (first-same (c a) (e a) (a + 1) n (λ k l m. f a k (omega arith) m))
+
+  pub pair-same : (pairBelow c n ≡ pairBelow e n) × (pairFirst c n ≡ pairFirst e n) × (pairSecond c n ≡ pairSecond e n)
+  unfolding pairBelow pairFirst pairSecond partner
+  pair-same =
+      let q = first-same (hasPartner c n) (hasPartner e n) 0 n (λ k l m. same-partner k) in
+      (holds-same (hasPartner c n) (hasPartner e n) n (λ k m. same-partner k), q,
+      ap (λ (a : ℕ). firstIn (c a) (a + 1) n) q ∙ first-same (c (firstIn (hasPartner e n) 0 n)) (e (firstIn (hasPartner e n) 0 n)) (firstIn (hasPartner e n) 0 n + 1) n (λ k l m. f _ k (omega arith) m))
 
 -- ---- for two nested loops
 
