@@ -1,5 +1,6 @@
 pub mod Inspect
+pub mod Answers
+pub mod FirstEntries
 pub mod Accepted
 pub mod Outcomes
 pub mod PlannerAccepted
-pub mod FirstEntries

@@ -1,30 +1,29 @@
 -- Law: what the inspector answers past the checks 1 to 5, and when: 8 and 9 with the lowest row, 7 with the need, 10 with the least pair, each only
 -- where none before it holds; else it accepts. What it answers before is `CheckOutcome`'s (`request_table`).
 use Prim.Native.Nat.{ℕ, _<_, _≤_}
-use mathlib.Core.Bool.{Bool, true, false, not, _&&_}
+use mathlib.Core.Bool.{Bool, true, false}
 use mathlib.Core.List.{List}
 use mathlib.Core.Logic.{_⊎_, inl, inr}
-use mathlib.Core.Path.{_≡_, refl, sym, _∙_, ap}
-use native.Mathlib.Omega.{arith}
-use borrow.Author.Tests.{lt-ltb, le-ltb, not-true, ne-eqb}
+use mathlib.Core.Path.{_≡_, refl, sym, _∙_}
+use borrow.Author.Tests.{ltb-true, ltb-false}
 use lib.IntN.{ℤ, negsuc}
 use lib.ListN.{length}
+use Rattle.answer.specs.declared.Answer.{Answer}
 use Rattle.answer.specs.Answer.{doneWith, refusedAt, refusedPair, refusedNeed, fixedRowMoved, badOffset, needExceedsSpace, rowsCollide}
 use Rattle.bounded.specs.Boolean.{contrary, lt-or-le}
-use Rattle.bounded.specs.Causes.{firstCause, follows-more}
 use Rattle.bounded.specs.First.{holdsBelow, none-holds}
 use Rattle.bounded.specs.Lowest.{Lowest, LeastPair, lowest-of, least-of}
 use Rattle.bounded.specs.Pair.{pairBelow, no-pair}
 use Rattle.words.specs.Words.{wordAt}
 use Rattle.request_table.specs.Buffers.{bufferAt}
-use Rattle.request_table.specs.CheckLaws.{Checked, none-refuses}
-use Rattle.request_table.specs.Checks.{tableCauses}
+use Rattle.request_table.specs.CheckLaws.{Checked}
 use Rattle.request_table.specs.Colliding.{Colliding, collides-says, collides-of}
 use Rattle.request_table.specs.GoodRows.{good-offset}
 use Rattle.request_table.specs.Limits.{greatestSpace}
 use Rattle.request_table.specs.Table.{rows, word, request, fixed, fixedOffset}
 use Rattle.inspection_rule.specs.Accepted.{Aligned, Acceptable, Passed, unmoved-says, unmoved-of, on-grid-says, on-grid-of, passed-of, passed-acceptable, fixed-of}
-use Rattle.inspection_rule.specs.Inspect.{proposed, moved, offGrid, proposedNeed, proposedCollide, ownCauses, acceptedAnswer, inspectOf}
+use Rattle.inspection_rule.specs.Answers.{moved-refused, grid-refused, need-refused, pair-refused, pair-decides, placed-decides, proposal-decides}
+use Rattle.inspection_rule.specs.Inspect.{proposed, moved, offGrid, proposedNeed, proposedCollide, proposalOf, inspectOf}
 
 -- Row r is fixed and is not where it was.
 pub record Moved (t o : List ℤ) (r : ℕ) : Type 0 where
@@ -87,12 +86,9 @@ module _ (g : ℕ) (t : List ℤ) (space : ℕ) (o : List ℤ) where
     own-bound : (r : ℕ) → r < rows t → fixed t r ≡ true → fixedOffset t r ≤ greatestSpace
     own-bound r l f = good-offset g (request t r) (c .goodRows r l) f
 
-    own-decides : inspectOf g t space o ≡ firstCause (ownCauses g t space o) (acceptedAnswer g t o)
-    unfolding inspectOf
-    own-decides = follows-more (tableCauses g t space (length o)) (ownCauses g t space o) (acceptedAnswer g t o) (none-refuses t (length o) g space c)
-
     -- Past the checks 1 to 5 the inspector answers so.
     pub inspect-outcome : Outcome
+    unfolding holdsBelow
     inspect-outcome =
         go (holdsBelow (moved t o) (rows t)) refl (holdsBelow (offGrid g o) (rows t)) refl (lt-or-le space (proposedNeed g t o))
         (pairBelow (proposedCollide g t o) (rows t)) refl
@@ -103,16 +99,22 @@ module _ (g : ℕ) (t : List ℤ) (space : ℕ) (o : List ℤ) where
         even : holdsBelow (offGrid g o) (rows t) ≡ false → AllAligned
         even e r l = on-grid-says g o r (none-holds (offGrid g o) (rows t) e r l)
 
+        first : {x : Answer} → x ≡ proposalOf g t space o → inspectOf g t space o ≡ x
+        first e = sym (e ∙ proposal-decides g t space o c)
+
         go : (b : Bool) → holdsBelow (moved t o) (rows t) ≡ b → (d : Bool) → holdsBelow (offGrid g o) (rows t) ≡ d
             → (space < proposedNeed g t o) ⊎ (proposedNeed g t o ≤ space) → (p : Bool) → pairBelow (proposedCollide g t o) (rows t) ≡ p → Outcome
-        go true e d f x p q = row-moved _ (lowest-of (moved t o) (rows t) (λ r l. moved-says r) (λ r l. moved-of r (own-bound r l)) e) (own-decides ∙ rw (e, firstCause))
+        go true e d f x p q =
+            row-moved _ (lowest-of (moved t o) (rows t) (λ r l. moved-says r) (λ r l. moved-of r (own-bound r l)) e) (first (moved-refused g t space o (ltb-true _ _ e)))
         go false e true f x p q =
-            off-grid _ (still e) (lowest-of (offGrid g o) (rows t) (λ r l. grid-says r) (λ r l. grid-of r) f) (own-decides ∙ rw (e, firstCause, f, firstCause))
-        go false e false f (inl l) p q = too-much (still e) (even f) l (own-decides ∙ rw (e, firstCause, f, firstCause, lt-ltb _ _ l, firstCause))
+            off-grid _ (still e) (lowest-of (offGrid g o) (rows t) (λ r l. grid-says r) (λ r l. grid-of r) f)
+            (first (grid-refused g t space o (ltb-false _ _ e) (ltb-true _ _ f)))
+        go false e false f (inl l) p q =
+            too-much (still e) (even f) l (first (need-refused g t space o l ∙ placed-decides g t space o (ltb-false _ _ e) (ltb-false _ _ f)))
         go false e false f (inr l) true q =
             rows-clash _ _ (still e) (even f) l
             (least-of (proposedCollide g t o) (rows t) (λ a b m n z. record { rising = m; within = n; collides = collides-says _ _ z }) (λ a b z. (z .rising, z .within, collides-of _ _ (z .collides))) q)
-            (own-decides ∙ rw (e, firstCause, f, firstCause, le-ltb _ _ l, firstCause, q, firstCause))
+            (first (pair-refused g t o q ∙ pair-decides g t space o l ∙ placed-decides g t space o (ltb-false _ _ e) (ltb-false _ _ f)))
         go false e false f (inr l) false q =
             let p : Passed g t space o = record {
               checks = c;
