@@ -6,7 +6,7 @@
 --
 -- One law over whole scripts, by positions in the script. It stands on the inspector's exact rule (`Accepted`) and on nothing else.
 use Prim.Native.Nat.{ℕ, _+_, _%_, _<_, _≤_}
-use mathlib.Core.Bool.{Bool, true, false, not, _||_}
+use mathlib.Core.Bool.{Bool, true, false, not}
 use mathlib.Core.List.{List}
 use mathlib.Core.Logic.{_⊎_, inl, inr, _↔_}
 use mathlib.Core.Path.{_≡_, refl, sym, _∙_, ap, ap₂, subst}
@@ -17,7 +17,7 @@ use lib.IntN.{ℤ, pos, negsuc}
 use lib.ListN.{length, getD}
 use Rattle.answer.specs.Answer.{doneWith, refusedAt, badAccess as badAccessNumber}
 use Rattle.bounded.specs.Boolean.{either, contrary}
-use Rattle.bounded.specs.First.{firstIn, holdsBelow, none-found, none-holds}
+use Rattle.bounded.specs.First.{holdsBelow, none-found, none-holds}
 use Rattle.bounded.specs.Lowest.{Lowest}
 use Rattle.bounded.specs.Replaced.{replaced-at}
 use Rattle.words.specs.Words.{natural, isMinusOne}

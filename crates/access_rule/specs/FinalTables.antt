@@ -10,9 +10,9 @@ use Rattle.bounded.specs.Replaced.{replaced-length, replaced-at, replaced-past}
 use Rattle.request_table.specs.CheckLaws.{numberOf}
 use Rattle.access_rule.specs.Accesses.{count}
 use Rattle.access_rule.specs.Answers.{done-says, done-arena, done-bytes}
-use Rattle.access_rule.specs.Demand3.{Reads, Writes, fallsOn, ScriptDone, falls, reads-of, writes-of, write-says}
+use Rattle.access_rule.specs.Demand3.{Writes, fallsOn, ScriptDone, falls, writes-of, write-says}
 use Rattle.access_rule.specs.Inside.{inside}
-use Rattle.access_rule.specs.LastWrites.{after-length, stands, untouched, read-answers, write-answers}
+use Rattle.access_rule.specs.LastWrites.{after-length, stands, untouched, write-answers}
 use Rattle.access_rule.specs.Run.{answerByte}
 use Rattle.access_rule.specs.Script.{finalArena, finalBytes}
 

@@ -1,10 +1,10 @@
 -- Good scripts over signed words, as document 01 writes them: moments never go back, and each touch is a byte of a row alive then. The definition, which
 -- reads a negative word as a number above every limit, calls the same touch the lowest bad one.
 use Prim.Native.Nat.{ℕ, zero, suc, _<_, _≤_}
-use mathlib.Core.Bool.{Bool, true, false, not, _||_}
+use mathlib.Core.Bool.{true, _||_}
 use mathlib.Core.List.{List}
-use mathlib.Core.Logic.{_⊎_, inl, inr, ⊎-elim, _↔_}
-use mathlib.Core.Path.{_≡_, refl, sym, _∙_, ap, subst}
+use mathlib.Core.Logic.{_⊎_, inl, inr, ⊎-elim}
+use mathlib.Core.Path.{_≡_, sym, ap, subst}
 use native.Mathlib.Nat.{eq-or-lt-of-le, le-of-suc-le-suc}
 use native.Mathlib.Omega.{arith}
 use borrow.Author.Tests.{leb-true, le-leb, not-false, not-true}
@@ -12,10 +12,10 @@ use lib.Dec.{leb, leb→le}
 use lib.IntN.{ℤ, pos, negsuc}
 use lib.Signed.{_≤ℤ_, _<ℤ_, leZ-yes}
 use Rattle.bounded.specs.Boolean.{either, contrary}
-use Rattle.bounded.specs.First.{firstIn, holdsBelow, first-is, none-holds, none-found, found}
+use Rattle.bounded.specs.First.{firstIn, holdsBelow, first-is, found}
 use Rattle.bounded.specs.Lowest.{Lowest}
 use Rattle.words.specs.Words.{natural, isMinusOne}
-use Rattle.words.specs.WordOrders.{Within, within, le-of, lt-of, of-le, of-lt, natural-of, from-zero, minus-one-of}
+use Rattle.words.specs.WordOrders.{within, le-of, lt-of, of-le, of-lt, natural-of, from-zero, minus-one-of}
 use Rattle.request_table.specs.GoodRows.{GoodRow}
 use Rattle.request_table.specs.Limits.{greatestRows, greatestSpace, lastMoment}
 use Rattle.request_table.specs.Table.{rows, request, word as tableWord}

@@ -1,5 +1,5 @@
 -- Law: in an accepted plan, a touch of a living byte falls below its row's end, so below the need, so below the space: no touch leaves the arena.
-use Prim.Native.Nat.{ℕ, _+_, _<_, _≤_}
+use Prim.Native.Nat.{ℕ, _<_, _≤_}
 use mathlib.Core.Bool.{true}
 use mathlib.Core.List.{List}
 use mathlib.Core.Path.{_≡_}
@@ -8,7 +8,7 @@ use lib.IntN.{ℤ}
 use Rattle.request_table.specs.Buffers.{bufferAt, end}
 use Rattle.request_table.specs.Needs.{need-bounds}
 use Rattle.request_table.specs.Rounding.{occupied-holds, occupied-some}
-use Rattle.request_table.specs.Table.{rows, request}
+use Rattle.request_table.specs.Table.{request}
 use Rattle.inspection_rule.specs.Accepted.{passed-says}
 use Rattle.inspection_rule.specs.Inspect.{proposed, proposedNeed, inspectOf}
 use Rattle.access_rule.specs.Accesses.{access, good}

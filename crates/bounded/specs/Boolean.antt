@@ -1,7 +1,7 @@
 -- Tests and what they say: a conjunction taken apart, two tests that say the same, a number below another or not.
 -- The kit's own laws of tests (borrow.Author.Tests) turn a test of numbers into an order of numbers and back; these are what it lacks.
 use Prim.Native.Nat.{ℕ, _<_, _≤_}
-use mathlib.Core.Bool.{Bool, true, false, not, _&&_, _||_}
+use mathlib.Core.Bool.{Bool, true, false, _&&_, _||_}
 use mathlib.Core.Logic.{_⊎_, inl, inr}
 use mathlib.Core.Path.{_≡_, refl, sym}
 use native.Mathlib.Decide.{decLt}

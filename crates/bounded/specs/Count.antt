@@ -9,7 +9,7 @@ use native.Mathlib.Nat.{eq-or-lt-of-le, le-of-suc-le-suc}
 use native.Mathlib.Numerals.{add-one}
 use native.Mathlib.Omega.{arith}
 use Rattle.bounded.specs.Boolean.{contrary}
-use Rattle.bounded.specs.First.{holdsBelow, none-holds, found}
+use Rattle.bounded.specs.First.{holdsBelow, none-holds}
 
 -- One where the test holds, else nothing.
 unfoldable pub one : Bool → ℕ

@@ -1,7 +1,7 @@
 -- What a search names, in plain terms: the lowest index of which something is so, and the least pair. "So" is any statement about indices; the test
 -- that is searched decides it. `lowest-of` and `least-of` turn what a search found into these; nothing here mentions how it was found.
 use Prim.Native.Nat.{ℕ, _<_, _≤_}
-use mathlib.Core.Bool.{Bool, true, false}
+use mathlib.Core.Bool.{Bool, true}
 use mathlib.Core.Logic.{_⊎_, inl, inr}
 use mathlib.Core.Path.{_≡_}
 use native.Mathlib.Omega.{arith}

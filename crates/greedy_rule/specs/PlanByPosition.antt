@@ -10,7 +10,7 @@ use lib.Dec.{ltb}
 use lib.IntN.{ℤ}
 use Rattle.bounded.specs.Boolean.{lt-or-le, same-or-not}
 use Rattle.request_table.specs.Table.{rows, fixed, fixedOffset}
-use Rattle.placement.specs.Placing.{Placing, put, lowest, offsetFor, placing, place}
+use Rattle.placement.specs.Placing.{Placing, put, offsetFor, placing, place}
 use Rattle.placement.specs.Put.{put-there, put-elsewhere, placed-there, placed-elsewhere}
 use Rattle.greedy_rule.specs.Greedy.{fixedFirst, greedyOrder, greedyPlan}
 use Rattle.greedy_rule.specs.GreedyOrder.{position, rowAt, whole-length, position-listed, listed-position}

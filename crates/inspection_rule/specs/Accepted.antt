@@ -4,10 +4,10 @@ use Prim.Native.Nat.{ℕ, _+_, _*_, _/_, _%_, _<_, _≤_}
 use mathlib.Core.Bool.{Bool, true, false, not, _&&_, _||_}
 use mathlib.Core.List.{List}
 use mathlib.Core.Logic.{_⊎_, inl, inr, _↔_}
-use mathlib.Core.Path.{_≡_, refl, sym, _∙_, ap, subst}
+use mathlib.Core.Path.{_≡_, refl, sym, _∙_, ap}
 use native.Mathlib.Nat.{div-add-mod', mul-mod-left}
 use native.Mathlib.Omega.{arith}
-use borrow.Author.Tests.{ltb-false, le-ltb, eqb-true, eq-eqb, ne-eqb, not-false}
+use borrow.Author.Tests.{ltb-false, le-ltb, eqb-true, eq-eqb, not-false}
 use lib.Dec.{eqb}
 use lib.IntN.{ℤ, pos, negsuc}
 use lib.ListN.{length}
@@ -15,19 +15,19 @@ use lib.Signed.{ltZ}
 use Rattle.answer.specs.Answer.{doneWith}
 use Rattle.bounded.specs.Boolean.{contrary, lt-or-le}
 use Rattle.bounded.specs.Causes.{NoneHolds, AllRefuse, follows, passed}
-use Rattle.bounded.specs.First.{holdsBelow, none-holds, none-found}
-use Rattle.bounded.specs.Pair.{pairBelow, no-pair, none-paired}
+use Rattle.bounded.specs.First.{none-holds, none-found}
+use Rattle.bounded.specs.Pair.{no-pair, none-paired}
 use Rattle.words.specs.Words.{wordAt, natural, isMinusOne}
 use Rattle.words.specs.WordOrders.{within, minus-one-of}
-use Rattle.request_table.specs.Buffers.{occupied, bufferAt, end, need}
+use Rattle.request_table.specs.Buffers.{occupied, bufferAt, need}
 use Rattle.request_table.specs.CheckLaws.{Checked, numberOf, checked, none-refuses}
 use Rattle.request_table.specs.Checks.{tableCauses, checkOf}
 use Rattle.request_table.specs.Colliding.{Colliding, apart, not-colliding}
-use Rattle.request_table.specs.GoodRows.{GoodRow, good-offset}
+use Rattle.request_table.specs.GoodRows.{good-offset}
 use Rattle.request_table.specs.Limits.{greatestSpace}
 use Rattle.request_table.specs.Needs.{EndsThere, need-bounds, need-is-one}
 use Rattle.request_table.specs.Rounding.{occupied-some, occupied-empty}
-use Rattle.request_table.specs.Table.{rows, word, request, fixed, fixedOffset, onGrid}
+use Rattle.request_table.specs.Table.{rows, word, request, fixed, fixedOffset}
 use Rattle.request_table.specs.WellFormed.{WellFormed, passes, passed-is-well-formed}
 use Rattle.inspection_rule.specs.Inspect.{proposed, moved, offGrid, proposedNeed, proposedCollide, inspectCauses, acceptedAnswer, inspectOf}
 

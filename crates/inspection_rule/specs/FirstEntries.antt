@@ -12,8 +12,8 @@ use lib.Signed.{ltZ}
 use Rattle.answer.specs.Answer.{doneWith}
 use Rattle.answer.specs.declared.Answer.{Answer}
 use Rattle.bounded.specs.Causes.{Cause, firstCause}
-use Rattle.bounded.specs.First.{firstIn, holdsBelow, first-same, holds-same}
-use Rattle.bounded.specs.Pair.{pairBelow, pairFirst, pairSecond, pair-same}
+use Rattle.bounded.specs.First.{first-same, holds-same}
+use Rattle.bounded.specs.Pair.{pair-same}
 use Rattle.words.specs.Words.{wordAt, natural}
 use Rattle.request_table.specs.Buffers.{bufferAt, collides}
 use Rattle.request_table.specs.Checks.{tableCauses}

@@ -1,16 +1,15 @@
 -- Law: whenever the greedy planner is done, the inspector accepts its plan for the same table and space, with the same need.
-use Prim.Native.Nat.{ℕ, _+_, _*_, _/_, _%_, _<_, _≤_}
-use mathlib.Core.Bool.{true}
+use Prim.Native.Nat.{ℕ, _/_, _<_, _≤_}
 use mathlib.Core.List.{List}
-use mathlib.Core.Path.{_≡_, refl, sym, _∙_, ap, subst}
+use mathlib.Core.Path.{_≡_, sym, _∙_, ap, subst}
 use native.Mathlib.Nat.{div-add-mod'}
 use native.Mathlib.Omega.{arith}
-use lib.IntN.{ℤ, pos, negsuc}
+use lib.IntN.{ℤ, pos}
 use lib.ListN.{length}
 use Rattle.answer.specs.Answer.{doneWith}
-use Rattle.words.specs.Words.{wordAt, natural}
+use Rattle.words.specs.Words.{natural}
 use Rattle.words.specs.WordOrders.{within}
-use Rattle.request_table.specs.Buffers.{occupied, bufferAt, need}
+use Rattle.request_table.specs.Buffers.{bufferAt}
 use Rattle.request_table.specs.Colliding.{Colliding}
 use Rattle.request_table.specs.GoodRows.{good-offset}
 use Rattle.request_table.specs.Limits.{greatestSpace}
@@ -22,7 +21,7 @@ use Rattle.greedy_rule.specs.Answers.{Done, done-says}
 use Rattle.greedy_rule.specs.DonePlans.{DonePlan, done-plan}
 use Rattle.greedy_rule.specs.Greedy.{greedyPlan}
 use Rattle.greedy_rule.specs.Plan.{greedyNeed, planOf, plannedTable}
-use Rattle.inspection_rule.specs.Accepted.{Aligned, Acceptable, fixed-of, own-offset, accepted-exactly, accepted-needs}
+use Rattle.inspection_rule.specs.Accepted.{Acceptable, fixed-of, own-offset, accepted-exactly, accepted-needs}
 use Rattle.inspection_rule.specs.Inspect.{proposed, proposedNeed, inspectOf}
 
 module _ (g : ℕ) (t : List ℤ) (space : ℕ) (lent : List ℤ) (h : 0 < g) (e : planOf g t space (length lent) .number ≡ 0) where

@@ -5,16 +5,16 @@ use mathlib.Core.Bool.{Bool, true, false, not}
 use mathlib.Core.List.{List}
 use mathlib.Core.Logic.{_⊎_, inl, inr}
 use mathlib.Core.Path.{_≡_, refl, sym, _∙_, ap}
-use borrow.Author.Tests.{ltb-false, lt-ltb, le-ltb, ne-eqb, eq-eqb, not-false}
+use borrow.Author.Tests.{lt-ltb, le-ltb, ne-eqb, eq-eqb, not-false}
 use lib.IntN.{ℤ}
 use lib.ListN.{length}
 use Rattle.answer.specs.Answer.{refused, refusedAt, doneWith, notWholeRows, tooMany, tableTooShort, spaceTooLarge, badRow as badRowNumber}
 use Rattle.bounded.specs.Boolean.{contrary, lt-or-le, same-or-not}
-use Rattle.bounded.specs.Causes.{firstCause, follows}
+use Rattle.bounded.specs.Causes.{firstCause}
 use Rattle.bounded.specs.First.{holdsBelow, none-holds}
 use Rattle.bounded.specs.Lowest.{Lowest, lowest-of}
-use Rattle.request_table.specs.CheckLaws.{Shaped, Checked, content-decides, none-refuses}
-use Rattle.request_table.specs.Checks.{tableCauses, contentOf, checkOf}
+use Rattle.request_table.specs.CheckLaws.{Shaped, Checked, content-decides}
+use Rattle.request_table.specs.Checks.{contentOf, checkOf}
 use Rattle.request_table.specs.GoodRows.{GoodRow, good-says, good-of}
 use Rattle.request_table.specs.Limits.{greatestRows, greatestSpace}
 use Rattle.request_table.specs.Table.{rows, request, good, badRow}

@@ -1,5 +1,5 @@
 -- Good rows in signed numbers, as document 01 writes them: the definition, which reads a negative word as a number above every limit, says the same.
-use Prim.Native.Nat.{ℕ, _*_, _/_, _%_, _<_, _≤_}
+use Prim.Native.Nat.{ℕ, _*_, _/_, _%_, _≤_}
 use mathlib.Core.Bool.{true, not, _&&_, _||_, Bool·not-not}
 use mathlib.Core.List.{List}
 use mathlib.Core.Logic.{_⊎_, inl, inr}

@@ -4,7 +4,7 @@ use mathlib.Core.List.{List}
 use mathlib.Core.Path.{_≡_}
 use lib.IntN.{ℤ}
 use lib.ListN.{length}
-use Rattle.request_table.specs.CheckLaws.{Shaped, Checked}
+use Rattle.request_table.specs.CheckLaws.{Checked}
 use Rattle.request_table.specs.GoodRows.{GoodRow, good-says, good-of}
 use Rattle.request_table.specs.Limits.{greatestRows, greatestSpace}
 use Rattle.request_table.specs.Table.{rows}

@@ -1,7 +1,7 @@
 -- A signed word of a table, taken apart: which natural number it is, and whether it is −1.
 -- All is total. A negative word reads as a number above every limit of the documents, so that no test of a limit lets it pass.
 use Prim.Native.Nat.{ℕ}
-use mathlib.Core.Bool.{Bool, true, false}
+use mathlib.Core.Bool.{Bool, false}
 use mathlib.Core.List.{List}
 use lib.Dec.{eqb}
 use lib.IntN.{ℤ, pos, negsuc}
