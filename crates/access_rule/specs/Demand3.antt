@@ -4,7 +4,7 @@
 -- In every script that is done, no touch leaves the arena. A byte read is the last byte written there through that same tensor in that run, whatever
 -- the others wrote between. A byte not yet written through that tensor in the run carries no such promise."
 --
--- One law over whole scripts, by positions in the script. It stands on the inspector's exact rule (`Accepted`) and on nothing else.
+-- One law over whole scripts, by positions in the script. It stands on the inspector's exact rule (`ExactRule`) and on nothing else.
 use Prim.Native.Nat.{ℕ, _+_, _%_, _<_, _≤_}
 use mathlib.Core.Bool.{Bool, true, false, not}
 use mathlib.Core.List.{List}
@@ -27,7 +27,7 @@ use Rattle.request_table.specs.CheckLaws.{numberOf}
 use Rattle.request_table.specs.GoodRows.{GoodRow}
 use Rattle.request_table.specs.Limits.{greatestRows}
 use Rattle.request_table.specs.Table.{rows, request}
-use Rattle.inspection_rule.specs.Accepted.{Passed, passed-says, passed-acceptable}
+use Rattle.inspection_rule.specs.ExactRule.{Passed, passed-says, passed-acceptable}
 use Rattle.inspection_rule.specs.Inspect.{proposed, proposedNeed, inspectOf}
 use Rattle.access_rule.specs.Accesses.{greatestAccesses, count, word, access, good, badAccess}
 use Rattle.access_rule.specs.Answers.{Sized, done-says, touches-decide, touches-passed, touch-refused, done-bytes, refusal-keeps}

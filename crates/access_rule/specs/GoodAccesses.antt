@@ -23,11 +23,10 @@ module _ (t : List ℤ) (a : Access) where
   pub reaches-says : reaches t a ≡ true → Reaches t a
   unfolding reaches
   reaches-says e =
-      let x = request t (a .row .0) in
-      let n = both (ltb (a .row .0) (rows t)) (alive x (a .moment) && (ltb (a .index) (x .size) && allowed a)) e in
-      let l = both (alive x (a .moment)) (ltb (a .index) (x .size) && allowed a) (n .1) in
-      let m = both (leb (x .first .0) (a .moment .0)) (leb (a .moment .0) (x .last .0)) (l .0) in
-      let i = both (ltb (a .index) (x .size)) (allowed a) (l .1) in
+      let n = both _ _ e in
+      let l = both _ _ (n .1) in
+      let m = both _ _ (l .0) in
+      let i = both _ _ (l .1) in
       record { named = ltb-true _ _ (n .0); begun = leb-true _ _ (m .0); lasting = leb-true _ _ (m .1); inside = ltb-true _ _ (i .0); value = i .1 }
 
   pub reaches-of : Reaches t a → reaches t a ≡ true
@@ -40,7 +39,7 @@ module _ (t s : List ℤ) (k : ℕ) where
   -- A good touch is not before the one in front of it, and reaches a byte.
   pub good-says : good t s k ≡ true → (momentBefore s k ≤ access s k .moment .0) × Reaches t (access s k)
   unfolding good
-  good-says e = let x = both (leb (momentBefore s k) (access s k .moment .0)) (reaches t (access s k)) e in (leb-true _ _ (x .0), reaches-says t (access s k) (x .1))
+  good-says e = let x = both _ _ e in (leb-true _ _ (x .0), reaches-says t (access s k) (x .1))
 
   pub good-of : momentBefore s k ≤ access s k .moment .0 → Reaches t (access s k) → good t s k ≡ true
   unfolding good

@@ -9,7 +9,7 @@ use Rattle.request_table.specs.Buffers.{bufferAt, end}
 use Rattle.request_table.specs.Needs.{need-bounds}
 use Rattle.request_table.specs.Rounding.{occupied-holds, occupied-some}
 use Rattle.request_table.specs.Table.{request}
-use Rattle.inspection_rule.specs.Accepted.{passed-says}
+use Rattle.inspection_rule.specs.ExactRule.{passed-says}
 use Rattle.inspection_rule.specs.Inspect.{proposed, proposedNeed, inspectOf}
 use Rattle.access_rule.specs.Accesses.{access, good}
 use Rattle.access_rule.specs.GoodAccesses.{Reaches, good-says}

@@ -3,7 +3,7 @@ use Prim.Native.Nat.{ℕ, zero, suc, _<_}
 use mathlib.Core.Bool.{Bool, true, false}
 use mathlib.Core.List.{List}
 use mathlib.Core.Logic.{⊎-elim}
-use mathlib.Core.Path.{_≡_, refl, _∙_, subst}
+use mathlib.Core.Path.{_≡_, refl, sym, _∙_, subst}
 use native.Mathlib.Nat.{eq-or-lt-of-le, le-of-suc-le-suc}
 use native.Mathlib.Omega.{arith}
 use lib.IntN.{ℤ}
@@ -16,28 +16,28 @@ use Rattle.access_rule.specs.declared.Access.{Access}
 -- ---- one touch
 
 module _ (o : List ℤ) (a : Access) (arena : List ℕ) where
-  -- The arena stays as long as it is.
-  pub by-length : length (arenaBy o a arena) ≡ length arena
-  unfolding arenaBy
-  by-length = go (a .reads)
-    where
-      go : (b : Bool) → length {A = ℕ} (elim b [ true ↦ arena | false ↦ set arena (byteOf o a) (a .value) ]) ≡ length arena
-      go true = refl
-      go false = length-set arena (byteOf o a) (a .value)
-
   -- A write leaves its value in its byte.
   pub by-write : a .reads ≡ false → byteOf o a < length arena → getD (arenaBy o a arena) (byteOf o a) 0 ≡ a .value
   unfolding arenaBy byteOf
   by-write e l = rw (e, arenaBy) (getD-set-same arena (byteOf o a) (a .value) 0 l)
 
+  -- The arena stays as long as it is.
+  pub by-length : length (arenaBy o a arena) ≡ length arena
+  unfolding arenaBy byteOf
+  by-length = go (a .reads) refl
+    where
+      go : (b : Bool) → a .reads ≡ b → length (arenaBy o a arena) ≡ length arena
+      go true e = rw (e, arenaBy)
+      go false e = rw (e, arenaBy) (length-set arena (byteOf o a) (a .value))
+
   -- A touch that does not write a byte leaves it.
   pub by-other : (x : ℕ) → (a .reads ≡ false → byteOf o a ≡ x → ⊥) → getD (arenaBy o a arena) x 0 ≡ getD arena x 0
-  unfolding arenaBy
+  unfolding arenaBy byteOf
   by-other x f = go (a .reads) refl
     where
-      go : (b : Bool) → a .reads ≡ b → getD (elim b [ true ↦ arena | false ↦ set arena (byteOf o a) (a .value) ]) x 0 ≡ getD arena x 0
-      go true e = refl
-      go false e = getD-set-other arena (byteOf o a) x (a .value) 0 (λ q. f e (let p : byteOf o a ≡ x = omega arith in p))
+      go : (b : Bool) → a .reads ≡ b → getD (arenaBy o a arena) x 0 ≡ getD arena x 0
+      go true e = rw (e, arenaBy)
+      go false e = rw (e, arenaBy) (getD-set-other arena (byteOf o a) x (a .value) 0 (λ q. f e (sym q)))
 
 -- ---- a run
 
@@ -46,7 +46,7 @@ module _ (o s : List ℤ) (arena : List ℕ) where
   pub after-length : (k : ℕ) → length (arenaAfter o s arena k) ≡ length arena
   unfolding arenaAfter
   after-length zero = refl
-  after-length (suc k) = by-length o (access s k) (arenaAfter o s arena k) ∙ after-length k
+  after-length (suc k) = by-length o _ _ ∙ after-length k
 
   -- The value that touch j writes stands in its byte after n touches, if no touch between writes that byte.
   pub stands : (n j x : ℕ) → j < n → access s j .reads ≡ false → byteOf o (access s j) ≡ x → x < length arena

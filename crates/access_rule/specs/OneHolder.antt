@@ -10,7 +10,7 @@ use Rattle.request_table.specs.Buffers.{bufferAt}
 use Rattle.request_table.specs.Colliding.{Colliding, not-colliding}
 use Rattle.request_table.specs.Rounding.{occupied-holds}
 use Rattle.request_table.specs.Table.{rows, request}
-use Rattle.inspection_rule.specs.Accepted.{Passed}
+use Rattle.inspection_rule.specs.ExactRule.{Passed}
 use Rattle.inspection_rule.specs.Inspect.{proposed}
 
 -- Row a of the table is alive at moment m, and byte x is one of the bytes of its size.

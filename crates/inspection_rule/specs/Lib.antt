@@ -1,6 +1,6 @@
 pub mod Inspect
 pub mod Answers
 pub mod FirstEntries
-pub mod Accepted
+pub mod ExactRule
 pub mod Outcomes
 pub mod PlannerAccepted

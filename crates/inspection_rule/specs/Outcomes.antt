@@ -21,7 +21,7 @@ use Rattle.request_table.specs.Colliding.{Colliding, collides-says, collides-of
 use Rattle.request_table.specs.GoodRows.{good-offset}
 use Rattle.request_table.specs.Limits.{greatestSpace}
 use Rattle.request_table.specs.Table.{rows, word, request, fixed, fixedOffset}
-use Rattle.inspection_rule.specs.Accepted.{Aligned, Acceptable, Passed, unmoved-says, unmoved-of, on-grid-says, on-grid-of, passed-of, passed-acceptable, fixed-of}
+use Rattle.inspection_rule.specs.ExactRule.{Aligned, Acceptable, Passed, unmoved-says, unmoved-of, on-grid-says, on-grid-of, passed-of, passed-acceptable, fixed-of}
 use Rattle.inspection_rule.specs.Answers.{moved-refused, grid-refused, need-refused, pair-refused, pair-decides, placed-decides, proposal-decides}
 use Rattle.inspection_rule.specs.Inspect.{proposed, moved, offGrid, proposedNeed, proposedCollide, proposalOf, inspectOf}
 

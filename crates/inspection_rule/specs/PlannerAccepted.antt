@@ -21,7 +21,7 @@ use Rattle.greedy_rule.specs.Answers.{Done, done-says}
 use Rattle.greedy_rule.specs.DonePlans.{DonePlan, done-plan}
 use Rattle.greedy_rule.specs.Greedy.{greedyPlan}
 use Rattle.greedy_rule.specs.Plan.{greedyNeed, planOf, plannedTable}
-use Rattle.inspection_rule.specs.Accepted.{Acceptable, fixed-of, own-offset, accepted-exactly, accepted-needs}
+use Rattle.inspection_rule.specs.ExactRule.{Acceptable, fixed-of, own-offset, accepted-exactly, accepted-needs}
 use Rattle.inspection_rule.specs.Inspect.{proposed, proposedNeed, inspectOf}
 
 module _ (g : ℕ) (t : List ℤ) (space : ℕ) (lent : List ℤ) (h : 0 < g) (e : planOf g t space (length lent) .number ≡ 0) where
