@@ -1,3 +1,4 @@
 pub mod Accesses
 pub mod Run
 pub mod Script
+pub mod Answers
