@@ -42,6 +42,12 @@ greatest-is-one f (suc n) = go (lt-or-le (greatest f n) (f n)) (greatest-is-one 
     go (inr l) (inl e) = inl (omega arith)
     go (inr l) (inr t) = inr (record { index = t .index; within = omega (arith, t .within); value = omega (arith, t .value) })
 
+-- Functions that agree below the bound have the same greatest value.
+pub greatest-same : (f g : ℕ → ℕ) (n : ℕ) → ((i : ℕ) → i < n → f i ≡ g i) → greatest f n ≡ greatest g n
+unfolding greatest
+greatest-same f g zero h = refl
+greatest-same f g (suc n) h = ap₂ (λ (x y : ℕ). max x y) (greatest-same f g n (λ i l. h i (omega arith))) (h n (omega arith))
+
 -- A loop's start.
 pub greatest-none : (f : ℕ → ℕ) → 0 ≡ greatest f 0
 unfolding greatest

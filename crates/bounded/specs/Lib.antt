@@ -1,6 +1,7 @@
 pub mod Boolean
 pub mod First
 pub mod Pair
+pub mod Lowest
 pub mod Greatest
 pub mod Replaced
 pub mod Causes

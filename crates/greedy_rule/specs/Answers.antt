@@ -11,7 +11,8 @@ use lib.IntN.{ℤ}
 use Rattle.answer.specs.Answer.{doneWith, refusedPair, refusedNeed, fixedRowsCollide, needExceedsSpace}
 use Rattle.bounded.specs.Boolean.{both, both-hold, contrary, lt-or-le}
 use Rattle.bounded.specs.Causes.{NoneHolds, AllRefuse, firstCause, follows, follows-more, passed, refused-stands}
-use Rattle.bounded.specs.Pair.{pairBelow, pairFirst, pairSecond, no-pair, none-paired, least-pair}
+use Rattle.bounded.specs.Lowest.{LeastPair, least-of}
+use Rattle.bounded.specs.Pair.{pairBelow, pairFirst, pairSecond, no-pair, none-paired}
 use Rattle.request_table.specs.Buffers.{bufferAt}
 use Rattle.request_table.specs.CheckLaws.{Checked, numberOf, none-refuses, checked}
 use Rattle.request_table.specs.Checks.{tableCauses, checkOf}
@@ -31,10 +32,8 @@ pub record FixedClash (g : ℕ) (t : List ℤ) (a b : ℕ) : Type 0 where
   pub collides : Colliding (bufferAt g t a (fixedOffset t a)) (bufferAt g t b (fixedOffset t b))
 
 -- The least such pair: no other has a lower first row, and none with that first row a lower second.
-pub record LeastClash (g : ℕ) (t : List ℤ) (a b : ℕ) : Type 0 where
-  pub clash : FixedClash g t a b
-  pub first-least : (i j : ℕ) → FixedClash g t i j → a ≤ i
-  pub second-least : (j : ℕ) → FixedClash g t a j → b ≤ j
+abbrev pub LeastClash : ℕ → List ℤ → ℕ → ℕ → Type 0
+LeastClash g t = LeastPair (FixedClash g t)
 
 module _ (g : ℕ) (t : List ℤ) where
   clash-of : (a b : ℕ) → a < b → b < rows t → fixedCollide g t a b ≡ true → FixedClash g t a b
@@ -50,17 +49,7 @@ module _ (g : ℕ) (t : List ℤ) where
 
   -- The pair that the search names is the least.
   pub found-clash : pairBelow (fixedCollide g t) (rows t) ≡ true → LeastClash g t (pairFirst (fixedCollide g t) (rows t)) (pairSecond (fixedCollide g t) (rows t))
-  found-clash e =
-      let p = least-pair (fixedCollide g t) (rows t) e in
-      record {
-        clash = clash-of _ _ (p .rising) (p .within) (p .passes);
-        first-least = λ i j c. not-lower (lt-or-le i _) (λ l. contrary (clash-says i j c) (p .first-least i j l (c .rising) (c .within)));
-        second-least = λ j c. not-lower (lt-or-le j _) (λ l. contrary (clash-says _ j c) (p .second-least j (c .rising) l));
-      }
-    where
-      not-lower : {i a : ℕ} → (i < a) ⊎ (a ≤ i) → (i < a → ⊥) → a ≤ i
-      not-lower (inl l) f = absurd (f l)
-      not-lower (inr l) f = l
+  found-clash e = least-of (fixedCollide g t) (rows t) clash-of (λ a b c. (c .rising, c .within, clash-says a b c)) e
 
   -- Where it names none, no two fixed rows collide.
   pub no-clash : pairBelow (fixedCollide g t) (rows t) ≡ false → FixedRowsApart g t

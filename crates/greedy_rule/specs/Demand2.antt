@@ -42,7 +42,7 @@ module _ (g : ℕ) (t : List ℤ) (space room : ℕ) (w : WellFormed g t) (allow
   six-exactly = (there outcome, back outcome)
     where
       there : Outcome g t space room → planOf g t space room .number ≡ fixedRowsCollide → SomeClash g t
-      there (clash a b l e) n = record { a = a; b = b; clashes = l .clash }
+      there (clash a b l e) n = record { a = a; b = b; clashes = l .here }
       there (too-much f l e) n = absurd (omega (arith, ap numberOf e))
       there (planned f l e) n = absurd (omega (arith, ap numberOf e))
 
@@ -71,7 +71,7 @@ module _ (g : ℕ) (t : List ℤ) (space room : ℕ) (w : WellFormed g t) (allow
       there (planned f l e) n = absurd (omega (arith, ap numberOf e, ap numberOf n))
 
       back : Outcome g t space room → FixedRowsApart g t × (space < greedyNeed g t) → planOf g t space room ≡ refusedNeed needExceedsSpace (greedyNeed g t)
-      back (clash a b l e) c = absurd (no-clash-then (c .0) (record { a = a; b = b; clashes = l .clash }))
+      back (clash a b l e) c = absurd (no-clash-then (c .0) (record { a = a; b = b; clashes = l .here }))
       back (too-much f l e) c = e
       back (planned f l e) c = absurd (omega (arith, c .1))
 
@@ -85,6 +85,6 @@ module _ (g : ℕ) (t : List ℤ) (space room : ℕ) (w : WellFormed g t) (allow
       there (planned f l e) n = (f, l)
 
       back : Outcome g t space room → FixedRowsApart g t × (greedyNeed g t ≤ space) → planOf g t space room ≡ doneWith (greedyNeed g t)
-      back (clash a b l e) c = absurd (no-clash-then (c .0) (record { a = a; b = b; clashes = l .clash }))
+      back (clash a b l e) c = absurd (no-clash-then (c .0) (record { a = a; b = b; clashes = l .here }))
       back (too-much f l e) c = absurd (omega (arith, c .1))
       back (planned f l e) c = e

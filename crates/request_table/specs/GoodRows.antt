@@ -3,15 +3,16 @@ use Prim.Native.Nat.{ℕ, _*_, _/_, _%_, _<_, _≤_}
 use mathlib.Core.Bool.{true, not, _&&_, _||_, Bool·not-not}
 use mathlib.Core.List.{List}
 use mathlib.Core.Logic.{_⊎_, inl, inr}
-use mathlib.Core.Path.{_≡_, refl, sym, _∙_, ap, subst}
+use mathlib.Core.Path.{_≡_, sym, _∙_, ap, subst}
 use native.Mathlib.Nat.{div-add-mod', mul-mod-left}
 use native.Mathlib.Omega.{arith}
 use borrow.Author.Tests.{leb-true, le-leb, eqb-true, eq-eqb}
-use lib.Dec.{T, leb, eqb, leb→le}
+use lib.Dec.{leb, eqb}
 use lib.IntN.{ℤ, pos, negsuc}
-use lib.Signed.{_≤ℤ_, leZ-yes}
+use lib.Signed.{_≤ℤ_}
 use Rattle.bounded.specs.Boolean.{both, both-hold, either}
 use Rattle.words.specs.Words.{natural, isMinusOne}
+use Rattle.words.specs.WordOrders.{within, le-of, of-le, natural-of, from-zero, minus-one-of}
 use Rattle.request_table.specs.Limits.{greatestSpace, lastMoment}
 use Rattle.request_table.specs.Table.{word, request, onGrid, goodSize, goodLife, goodOffset, good}
 use Rattle.request_table.specs.declared.Request.{Request}
@@ -30,34 +31,6 @@ pub record GoodRow (g : ℕ) (t : List ℤ) (r : ℕ) : Type 0 where
   pub first-to : word t r 1 ≤ℤ word t r 2
   pub last-to : word t r 2 ≤ℤ pos lastMoment
   pub offset : (word t r 3 ≡ negsuc 0) ⊎ Multiple g (word t r 3)
-
--- ---- by the sign of a word
-
--- a word within a limit is a natural number within it
-record Within (z : ℤ) (high : ℕ) : Type 0 where
-  is : z ≡ pos (natural z)
-  small : natural z ≤ high
-
-within : (z : ℤ) (high : ℕ) → high < 4294967295 → natural z ≤ high → Within z high
-unfolding natural
-within (pos n) high l h = record { is = refl; small = h }
-within (negsuc n) high l h = absurd (omega arith)
-
-le-of : (m n : ℕ) → m ≤ n → pos m ≤ℤ pos n
-le-of m n h = leZ-yes (subst T (sym (le-leb m n h)) tt)
-
-of-le : (m n : ℕ) → pos m ≤ℤ pos n → m ≤ n
-of-le m n h = leb→le m n (h .le)
-
-natural-of : (z : ℤ) → pos 0 ≤ℤ z → z ≡ pos (natural z)
-unfolding natural
-natural-of (pos n) h = refl
-natural-of (negsuc n) h = absurd (h .le)
-
-minus-one-of : (z : ℤ) → isMinusOne z ≡ true → z ≡ negsuc 0
-unfolding isMinusOne
-minus-one-of (pos n) e = absurd (let w : _≡_ {A = ℕ} 0 1 = cc in omega arith)
-minus-one-of (negsuc n) e = ap negsuc (eqb-true n 0 e)
 
 module _ (g : ℕ) (t : List ℤ) (r : ℕ) where
   -- A row that the definition calls good is good in the document's words.
@@ -104,11 +77,6 @@ module _ (g : ℕ) (t : List ℤ) (r : ℕ) where
       (le-leb _ _ (of-le _ _ (subst (λ (z : ℤ). z ≤ℤ pos lastMoment) last (x .last-to)))))
       (placed (x .offset)))
     where
-      from-zero : (a b : ℤ) → pos 0 ≤ℤ a → a ≤ℤ b → pos 0 ≤ℤ b
-      from-zero a (pos n) p q = le-of 0 n (omega arith)
-      from-zero (pos m) (negsuc n) p q = absurd (q .le)
-      from-zero (negsuc m) (negsuc n) p q = absurd (p .le)
-
       placed : (word t r 3 ≡ negsuc 0) ⊎ Multiple g (word t r 3)
           → not (not (isMinusOne (word t r 3))) || (eqb (natural (word t r 3) % g) 0 && leb (natural (word t r 3)) greatestSpace) ≡ true
       placed (inl q) = rw q

@@ -8,3 +8,4 @@ pub mod Rounding
 pub mod Colliding
 pub mod Needs
 pub mod WellFormed
+pub mod CheckOutcomes
