@@ -1,11 +1,15 @@
 // Running a touch script over a lent arena (document 01, "The desk's order of checks"): the whole script is judged before the first touch, and on
 // refusal not a byte changes. The document's touch is an access here.
 ghost use Prim.Native.Nat.{_<_, _≤_};
-ghost use mathlib.Core.Bool.{_&&_};
+ghost use mathlib.Core.Bool.{true, _&&_};
 ghost use mathlib.Core.Path.{_≡_};
 ghost use lib.Dec.{leb};
+ghost use lib.ListN.{length};
 ghost use Rattle.bounded.specs.First.{firstIn};
-ghost use Rattle.access_rule.specs.Accesses.{count as countOf, access, reaches, badAccess, greatestAccesses};
+ghost use Rattle.bounded.specs.Replaced.{replaced};
+ghost use Rattle.access_rule.specs.Accesses.{count as countOf, access, reaches, badAccess, allowed, greatestAccesses};
+ghost use Rattle.access_rule.specs.Ready.{Ready};
+ghost use Rattle.access_rule.specs.Run.{byteOf, arenaBy, byteBy, arenaAfter, answerByte};
 ghost use Rattle.access_rule.specs.Script.{lengthsOf, touchesOf};
 use access_rule::Access;
 use answer::Answer;
@@ -108,4 +112,39 @@ fn judge_accesses(requests: &[i32], space: u32, accesses: &[i32], held: usize) -
         return Answer::refused_at(Answer::BAD_ACCESS, place);
     }
     Answer::done(0)
+}
+
+// Performs one touch, and gives the byte read or written.
+fn touch(offsets: &[i32], access: Access, arena: &mut [u8]) -> u8
+    requires { ⌜ byteOf (now offsets) access < length (now arena) ⌝ }
+    requires { ⌜ allowed access ≡ true ⌝ }
+    ensures arena { λ _. ⌜ now (arena .exit) ≡ arenaBy (now (offsets .entry)) access (now (arena .entry)) ⌝ }
+    ensures byte { λ r. ⌜ r ≡ byteBy (now (offsets .entry)) access (now (arena .entry)) ⌝ }
+{
+    let row = access.row;
+    let offset = plan_inspector::proposed_at(offsets, row);
+    let place = offset.0 as usize + access.index as usize;
+    let found = arena[place];
+    if access.reads {
+        return found;
+    }
+    let byte = access.value as u8;
+    arena[place] = byte;
+    byte
+}
+
+// Performs every touch, in script order: each finds the arena as the one before left it.
+fn perform(offsets: &[i32], accesses: &[i32], arena: &mut [u8], bytes: &mut [u8])
+    requires { ⌜ Ready (now offsets) (now accesses) (length (now arena)) (length (now bytes)) ⌝ }
+    ensures arena { λ _. ⌜ now (arena .exit) ≡ arenaAfter (now (offsets .entry)) (now (accesses .entry)) (now (arena .entry)) (countOf (now (accesses .entry))) ⌝ }
+    ensures bytes { λ _. ⌜ now (bytes .exit) ≡ replaced (answerByte (now (offsets .entry)) (now (accesses .entry)) (now (arena .entry))) (countOf (now (accesses .entry))) (now (bytes .entry)) ⌝ }
+{
+    let n = accesses.len() / ACCESS_WORDS;
+    let mut k = 0;
+    while k < n {
+        let access = access_at(accesses, k);
+        let byte = touch(offsets, access, arena);
+        bytes[k] = byte;
+        k += 1;
+    }
 }
