@@ -7,10 +7,11 @@ ghost use lib.Dec.{leb};
 ghost use lib.ListN.{length};
 ghost use Rattle.bounded.specs.First.{firstIn};
 ghost use Rattle.bounded.specs.Replaced.{replaced};
+ghost use Rattle.request_table.specs.Limits.{grid as gridOf};
 ghost use Rattle.access_rule.specs.Accesses.{count as countOf, access, reaches, badAccess, allowed, greatestAccesses};
 ghost use Rattle.access_rule.specs.Ready.{Ready};
 ghost use Rattle.access_rule.specs.Run.{byteOf, arenaBy, byteBy, arenaAfter, answerByte};
-ghost use Rattle.access_rule.specs.Script.{lengthsOf, touchesOf};
+ghost use Rattle.access_rule.specs.Script.{lengthsOf, touchesOf, scriptOf, finalArena, finalBytes};
 use access_rule::Access;
 use answer::Answer;
 use units::Moment;
@@ -104,14 +105,37 @@ fn judge_accesses(requests: &[i32], space: u32, accesses: &[i32], held: usize) -
     let bad = lowest_bad(requests, accesses);
     let place = bad as u32;
     let flawed = bad < accesses.len() / ACCESS_WORDS;
-    let too_short = held < space as usize;
-    if too_short {
+    let arena_short = held < space as usize;
+    if arena_short {
         return Answer::refused_at(Answer::ARENA_TOO_SHORT, 0);
     }
     if flawed {
         return Answer::refused_at(Answer::BAD_ACCESS, place);
     }
     Answer::done(0)
+}
+
+// The whole judging: the lengths, the plan, and past both the arena and the touches.
+fn judge(
+    grid: u32,
+    requests: &[i32],
+    space: u32,
+    offsets: &[i32],
+    accesses: &[i32],
+    held: usize,
+    room: usize,
+) -> Answer
+    ensures { λ r. ⌜ r ≡ scriptOf grid (now (requests .entry)) space (now (offsets .entry)) (now (accesses .entry)) held room ⌝ }
+{
+    let lengths = check_lengths(requests, offsets, accesses, room);
+    if lengths.number != Answer::DONE {
+        return lengths;
+    }
+    let inspected = plan_inspector::judge(grid, requests, space, offsets);
+    if inspected.number != Answer::DONE {
+        return inspected;
+    }
+    judge_accesses(requests, space, accesses, held)
 }
 
 // Performs one touch, and gives the byte read or written.
@@ -142,9 +166,38 @@ fn perform(offsets: &[i32], accesses: &[i32], arena: &mut [u8], bytes: &mut [u8]
     let n = accesses.len() / ACCESS_WORDS;
     let mut k = 0;
     while k < n {
-        let access = access_at(accesses, k);
-        let byte = touch(offsets, access, arena);
+        let byte = touch(offsets, access_at(accesses, k), arena);
         bytes[k] = byte;
         k += 1;
     }
+}
+
+// Document 01's touch script. Refused: 1, 2, 3, 4, 5, 8, 9, 7, 10, 12, 11, in that order, and nothing changes; done: all zeros, the arena as the touches
+// leave it, and in the first entries of `bytes` the byte that each read or wrote.
+pub fn run(
+    requests: &[i32],
+    space: u32,
+    offsets: &[i32],
+    accesses: &[i32],
+    arena: &mut [u8],
+    bytes: &mut [u8],
+) -> Answer
+    ensures answer { λ r. ⌜ r ≡ scriptOf gridOf (now (requests .entry)) space (now (offsets .entry)) (now (accesses .entry)) (length (now (arena .entry))) (length (now (bytes .entry))) ⌝ }
+    ensures arena { λ _. ⌜ now (arena .exit) ≡ finalArena gridOf (now (requests .entry)) space (now (offsets .entry)) (now (accesses .entry)) (now (arena .entry)) (now (bytes .entry)) ⌝ }
+    ensures bytes { λ _. ⌜ now (bytes .exit) ≡ finalBytes gridOf (now (requests .entry)) space (now (offsets .entry)) (now (accesses .entry)) (now (arena .entry)) (now (bytes .entry)) ⌝ }
+{
+    let answer = judge(
+        requests::GRID,
+        requests,
+        space,
+        offsets,
+        accesses,
+        arena.len(),
+        bytes.len(),
+    );
+    if answer.number != Answer::DONE {
+        return answer;
+    }
+    perform(offsets, accesses, arena, bytes);
+    answer
 }
