@@ -16,7 +16,8 @@ rejected : (c : tie.Then2) → c .before .before .judge .result .number ≡ 0 �
 rejected c z = omega (arith, c .if2 .taken)
 
 -- past the checks 1 to 3, what they say
-sized : (c : tie.Else1) → Sized (now (c .before .before .before .args .requests)) (now (c .before .before .before .args .offsets)) (now (c .before .before .before .args .accesses)) (c .before .before .before .args .room)
+sized : (c : tie.Else1)
+    → Sized (now (c .before .before .before .args .requests)) (now (c .before .before .before .args .offsets)) (now (c .before .before .before .args .accesses)) (c .before .before .before .args .room)
 sized c = lengths-passed _ _ _ _ (sym (ap numberOf (c .before .before .check-lengths .ensures)) ∙ c .if1 .left)
 
 check-lengths-requires : tie.Need-check-lengths-requires
@@ -43,8 +44,8 @@ judge-accesses-requires c κs = sized (c .before .before .before) .few-accesses
 returns-3 : tie.Need-returns-3
 returns-3 c =
     let u = c .before .before .before .before .before .before .before .args in
-    c .judge-accesses .ensures
-    ∙ touches-decide _ _ _ _ (u .grid) (u .space) (u .held) (sized (c .before .before .before .before)) (sym (ap numberOf (c .before .before .before .judge .ensures)) ∙ c .before .if2 .left)
+    let accepted = sym (ap numberOf (c .before .before .before .judge .ensures)) ∙ c .before .if2 .left in
+    c .judge-accesses .ensures ∙ touches-decide _ _ _ _ (u .grid) (u .space) (u .held) (sized (c .before .before .before .before)) accepted
 
 pub judge-spec : {M : Type 1} → statement M
 judge-spec =

@@ -15,7 +15,9 @@ lowest-bad-requires : tie.Need-lowest-bad-requires
 lowest-bad-requires c κs = search needs
 
 cast-place : tie.Need-cast-place
-cast-place c = let u = c .before in omega (arith, c .lowest-bad .ensures, u .pre, first-is (badAccess (now (u .args .requests)) (now (u .args .accesses))) 0 (count (now (u .args .accesses))) zero-le .high)
+cast-place c =
+    let u = c .before in
+    omega (arith, c .lowest-bad .ensures, u .pre, first-is (badAccess (now (u .args .requests)) (now (u .args .accesses))) 0 (count (now (u .args .accesses))) zero-le .high)
 
 refused-at-requires : tie.Need-refused-at-requires
 refused-at-requires c κs = search needs

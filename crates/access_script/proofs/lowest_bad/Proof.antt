@@ -27,7 +27,9 @@ is-good-requires : tie.Need-is-good-requires Inv-loop μ-loop
 is-good-requires c κs = tt
 
 -- what the test says of the touch
-bad : (c : tie.After-is-good Inv-loop μ-loop) → badAccess (now (c .before .before .before .before .args .table)) (now (c .before .before .before .before .args .accesses)) (c .before .before .before .loop .k) ≡ not (c .is-good .result)
+bad : (c : tie.After-is-good Inv-loop μ-loop)
+    → badAccess (now (c .before .before .before .before .args .table)) (now (c .before .before .before .before .args .accesses)) (c .before .before .before .loop .k)
+    ≡ not (c .is-good .result)
 bad c = ap not (sym (good-is _ _ _ (c .before .before .before .loop .inv .0) (c .before .access-at .ensures) (c .is-good .ensures)))
 
 returns : tie.Need-returns Inv-loop μ-loop
@@ -42,7 +44,8 @@ loop-less c = omega (arith, c .before .before .before .before .loop-test .taken)
 loop-again : tie.Need-loop-again Inv-loop μ-loop
 loop-again c =
     let l = c .before .before .before .before .before .loop in
-    (moment-after _ _ (c .before .before .before .access-at .ensures), pass (l .inv .1) (c .before .before .before .before .loop-test .taken) (bad (c .before .before) ∙ c .before .if1 .left))
+    let next = moment-after _ _ (c .before .before .before .access-at .ensures) in
+    (next, pass (l .inv .1) (c .before .before .before .before .loop-test .taken) (bad (c .before .before) ∙ c .before .if1 .left))
 
 returns-2 : tie.Need-returns-2 Inv-loop μ-loop
 returns-2 c = out (c .before .loop .inv .1) (c .loop-test .left)

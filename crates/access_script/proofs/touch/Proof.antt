@@ -12,7 +12,9 @@ use Rattle.access_script.proofs.touch.Statement.{statement}
 use Rattle.access_script.proofs.touch.Tie as tie
 
 -- the place that is worked out is the touch's byte, which lies within the arena
-place : (c : tie.After-proposed-at) → c .proposed-at .result .0 + c .before .before .before .args .access .index ≡ byteOf (now (c .before .before .before .args .offsets)) (c .before .before .before .args .access)
+place : (c : tie.After-proposed-at)
+    → c .proposed-at .result .0 + c .before .before .before .args .access .index
+    ≡ byteOf (now (c .before .before .before .args .offsets)) (c .before .before .before .args .access)
 place c = byte-is (now (c .before .before .before .args .offsets)) (c .before .before .before .args .access) (c .proposed-at .ensures)
 
 proposed-at-requires : tie.Need-proposed-at-requires
