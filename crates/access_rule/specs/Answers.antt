@@ -80,10 +80,11 @@ module _ (t o s : List ℤ) (room : ℕ) where
       }
 
   none-of : Sized t o s room → NoneHolds (lengthCauses t o s room)
-  none-of z = (
-    neither-holds (not (wholeRows t)) (not (wholeRows s)) (ap not (eq-eqb _ _ (z .whole))) (ap not (eq-eqb _ _ (z .whole-script))),
-    (neither-holds (ltb greatestRows (rows t)) (ltb greatestAccesses (count s)) (le-ltb _ _ (z .few)) (le-ltb _ _ (z .few-accesses)), (neither-holds (ltb (length o) (rows t)) (ltb room (count s)) (le-ltb _ _ (z .proposed-all)) (le-ltb _ _ (z .roomy)), tt)),
-  )
+  none-of z =
+      let one = neither-holds (not (wholeRows t)) (not (wholeRows s)) (ap not (eq-eqb _ _ (z .whole))) (ap not (eq-eqb _ _ (z .whole-script))) in
+      let two = neither-holds (ltb greatestRows (rows t)) (ltb greatestAccesses (count s)) (le-ltb _ _ (z .few)) (le-ltb _ _ (z .few-accesses)) in
+      let three = neither-holds (ltb (length o) (rows t)) (ltb room (count s)) (le-ltb _ _ (z .proposed-all)) (le-ltb _ _ (z .roomy)) in
+      (one, (two, (three, tt)))
 
   -- the inspector's own checks 1 to 3 pass then
   shape-none : Sized t o s room → NoneHolds (shapeCauses t (length o))

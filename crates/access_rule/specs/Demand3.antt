@@ -34,7 +34,7 @@ use Rattle.access_rule.specs.Answers.{Sized, done-says, touches-decide, 
 use Rattle.access_rule.specs.GoodAccesses.{Reaches, good-says}
 use Rattle.access_rule.specs.GoodScripts.{LivingByte, GoodTouch, GoodScript, rising, script-says, script-of, lowest-bad}
 use Rattle.access_rule.specs.Inside.{below-end, end-needed}
-use Rattle.access_rule.specs.LastWrites.{stands, untouched, read-answers}
+use Rattle.access_rule.specs.LastWrites.{stands, untouched, read-answer}
 use Rattle.access_rule.specs.OneHolder.{Holds, one-holder}
 use Rattle.access_rule.specs.Run.{byteOf, arenaAfter, answerByte}
 use Rattle.access_rule.specs.Script.{touchesOf, scriptOf, finalArena, finalBytes}
@@ -198,7 +198,7 @@ module _ (g : ℕ) (t : List ℤ) (space : ℕ) (o s : List ℤ) (arena bytes : 
     answered k m r =
         ap (λ (xs : List ℕ). getD xs k 0) (done-bytes g t space o s arena bytes (ap numberOf d))
         ∙ replaced-at (answerByte o s arena) (count s) bytes 0 k m (l .room)
-        ∙ read-answers o s arena k (reads-of s k r)
+        ∙ read-answer o s arena k (reads-of s k r)
         ∙ ap (λ (x : ℕ). getD (arenaAfter o s arena k) x 0) (falls o s k)
 
     last : (j k v : ℕ) → j < k → k < count s → Reads s k → Writes s j v → fallsOn o s j ≡ fallsOn o s k

@@ -12,8 +12,9 @@ use Rattle.access_rule.specs.Accesses.{count}
 use Rattle.access_rule.specs.Answers.{done-says, done-arena, done-bytes}
 use Rattle.access_rule.specs.Demand3.{Writes, fallsOn, ScriptDone, falls, writes-of, write-says}
 use Rattle.access_rule.specs.Inside.{inside}
-use Rattle.access_rule.specs.LastWrites.{after-length, stands, untouched, write-answers}
+use Rattle.access_rule.specs.LastWrites.{stands, untouched, write-answer}
 use Rattle.access_rule.specs.Run.{answerByte}
+use Rattle.access_rule.specs.RunLaws.{arena-length}
 use Rattle.access_rule.specs.Script.{finalArena, finalBytes}
 
 pub record Left (g : ℕ) (t : List ℤ) (space : ℕ) (o s : List ℤ) (arena bytes : List ℕ) : Type 0 where
@@ -36,12 +37,12 @@ module _ (g : ℕ) (t : List ℤ) (space : ℕ) (o s : List ℤ) (arena bytes : 
       let a = done-arena g t space o s arena bytes (ap numberOf d) in
       let b = done-bytes g t space o s arena bytes (ap numberOf d) in
       record {
-        arena-long = ap length a ∙ after-length o s arena (count s);
+        arena-long = ap length a ∙ arena-length o s arena (count s);
         bytes-long = ap length b ∙ replaced-length (answerByte o s arena) (count s) bytes;
         echoed = λ k v m w.
             ap (λ (xs : List ℕ). getD xs k 0) b
             ∙ replaced-at (answerByte o s arena) (count s) bytes 0 k m (z .sized .roomy)
-            ∙ write-answers o s arena k (writes-of s k v w .0)
+            ∙ write-answer o s arena k (writes-of s k v w .0)
             ∙ writes-of s k v w .1;
         rest = λ k m. ap (λ (xs : List ℕ). getD xs k 0) b ∙ replaced-past (answerByte o s arena) (count s) bytes 0 k m;
         written = λ j v m w none.

@@ -1,14 +1,13 @@
 -- What the test for a good touch says, in orders of natural numbers.
 use Prim.Native.Nat.{ℕ, _<_, _≤_}
-use mathlib.Core.Bool.{true, _&&_}
+use mathlib.Core.Bool.{true}
 use mathlib.Core.List.{List}
 use mathlib.Core.Path.{_≡_}
 use borrow.Author.Tests.{ltb-true, leb-true, lt-ltb, le-leb}
-use lib.Dec.{leb, ltb}
 use lib.IntN.{ℤ}
 use Rattle.bounded.specs.Boolean.{both, both-hold}
 use Rattle.request_table.specs.Table.{rows, request}
-use Rattle.access_rule.specs.Accesses.{access, momentBefore, alive, allowed, reaches, good}
+use Rattle.access_rule.specs.Accesses.{access, momentBefore, allowed, reaches, good}
 use Rattle.access_rule.specs.declared.Access.{Access}
 
 -- A touch names a row that is alive at its moment and a byte of it, and its value is allowed.

@@ -1,11 +1,15 @@
 // Running a touch script over a lent arena (document 01, "The desk's order of checks"): the whole script is judged before the first touch, and on
 // refusal not a byte changes. The document's touch is an access here.
-ghost use Prim.Native.Nat.{_≤_};
+ghost use Prim.Native.Nat.{_<_, _≤_};
+ghost use mathlib.Core.Bool.{true, _&&_};
 ghost use mathlib.Core.Path.{_≡_};
+ghost use lib.Dec.{leb};
 ghost use lib.ListN.{length};
 ghost use Rattle.bounded.specs.First.{firstIn};
+ghost use Rattle.bounded.specs.Replaced.{replaced};
 ghost use Rattle.request_table.specs.Limits.{grid as gridOf};
-ghost use Rattle.access_rule.specs.Accesses.{count as countOf, access, reaches as reachesOf, badAccess, greatestAccesses};
+ghost use Rattle.access_rule.specs.Accesses.{count as countOf, access, reaches, badAccess, allowed, greatestAccesses};
+ghost use Rattle.access_rule.specs.Ready.{Ready};
 ghost use Rattle.access_rule.specs.Run.{byteOf, arenaBy, byteBy, arenaAfter, answerByte};
 ghost use Rattle.access_rule.specs.Script.{lengthsOf, touchesOf, scriptOf, finalArena, finalBytes};
 use access_rule::Access;
@@ -17,29 +21,183 @@ use units::Row;
 pub const ACCESS_WORDS: usize = 4;
 // At most this many touches.
 pub const GREATEST_ACCESSES: usize = 4096;
+// The greatest value that a touch may write.
+const GREATEST_BYTE: u32 = 255;
 
 // Touch k of the script.
 fn access_at(accesses: &[i32], k: usize) -> Access
+    requires { ⌜ k < countOf (now accesses) ⌝ }
+    ensures { λ r. ⌜ r ≡ access (now (accesses .entry)) k ⌝ }
+{
+    let at = k * ACCESS_WORDS;
+    let moment = words::natural(accesses, at);
+    let row = words::natural(accesses, at + 1);
+    let index = words::natural(accesses, at + 2);
+    let reads = words::is_minus_one(accesses, at + 3);
+    let value = words::natural(accesses, at + 3);
+    Access {
+        moment: Moment(moment),
+        row: Row(row as usize),
+        index,
+        reads,
+        value,
+    }
+}
 
-// Whether a touch names a row alive at its moment and a byte within its size, and its value is allowed.
-fn reaches(table: &[i32], access: Access) -> bool
+// A good touch: its moment is at least the one before, it names a row alive at that moment and a byte within the row's size, and its value is allowed.
+fn is_good(table: &[i32], before: Moment, access: Access) -> bool
+    ensures { λ r. ⌜ r ≡ leb (before .0) (access .moment .0) && reaches (now (table .entry)) access ⌝ }
+{
+    let row = access.row;
+    let request = requests::request_at(table, row);
+    let rises = before.0 <= access.moment.0;
+    let listed = row.0 < table.len() / requests::ROW_WORDS;
+    let alive = (request.first.0 <= access.moment.0) & (access.moment.0 <= request.last.0);
+    let within = access.index < request.size;
+    let allowed = access.reads | (access.value <= GREATEST_BYTE);
+    rises & (listed & (alive & (within & allowed)))
+}
 
 // The lowest bad touch, else the number of touches. Each moment is compared with the one before.
 fn lowest_bad(table: &[i32], accesses: &[i32]) -> usize
+    ensures { λ r. ⌜ r ≡ firstIn (badAccess (now (table .entry)) (now (accesses .entry))) 0 (countOf (now (accesses .entry))) ⌝ }
+{
+    let n = accesses.len() / ACCESS_WORDS;
+    let mut before = Moment(0);
+    let mut k = 0;
+    while k < n {
+        let access = access_at(accesses, k);
+        if !is_good(table, before, access) {
+            return k;
+        }
+        before = access.moment;
+        k += 1;
+    }
+    k
+}
 
 // The checks 1 to 3, each for either of two tables.
 fn check_lengths(requests: &[i32], offsets: &[i32], accesses: &[i32], room: usize) -> Answer
+    ensures { λ r. ⌜ r ≡ lengthsOf (now (requests .entry)) (now (offsets .entry)) (now (accesses .entry)) room ⌝ }
+{
+    let rows = requests.len() / requests::ROW_WORDS;
+    let count = accesses.len() / ACCESS_WORDS;
+    let ragged = (requests.len() % requests::ROW_WORDS != 0) | (accesses.len() % ACCESS_WORDS != 0);
+    let too_many = (requests::GREATEST_ROWS < rows) | (GREATEST_ACCESSES < count);
+    let too_short = (offsets.len() < rows) | (room < count);
+    if ragged {
+        return Answer::refused(Answer::NOT_WHOLE_ROWS);
+    }
+    if too_many {
+        return Answer::refused(Answer::TOO_MANY);
+    }
+    if too_short {
+        return Answer::refused(Answer::TABLE_TOO_SHORT);
+    }
+    Answer::done(0)
+}
 
-// The checks 12 and 11.
+// The checks 12 and 11: the arena, which is told with no place, and the touches.
 fn judge_accesses(requests: &[i32], space: u32, accesses: &[i32], held: usize) -> Answer
+    requires { ⌜ countOf (now accesses) ≤ greatestAccesses ⌝ }
+    ensures { λ r. ⌜ r ≡ touchesOf (now (requests .entry)) space (now (accesses .entry)) held ⌝ }
+{
+    let bad = lowest_bad(requests, accesses);
+    let place = bad as u32;
+    let flawed = bad < accesses.len() / ACCESS_WORDS;
+    let arena_short = held < space as usize;
+    if arena_short {
+        return Answer::refused_at(Answer::ARENA_TOO_SHORT, 0);
+    }
+    if flawed {
+        return Answer::refused_at(Answer::BAD_ACCESS, place);
+    }
+    Answer::done(0)
+}
 
-// The whole judging ..
-fn judge(grid, requests, space, offsets, accesses, held, room) -> Answer
+// The whole judging: the lengths, the plan, and past both the arena and the touches.
+fn judge(
+    grid: u32,
+    requests: &[i32],
+    space: u32,
+    offsets: &[i32],
+    accesses: &[i32],
+    held: usize,
+    room: usize,
+) -> Answer
+    ensures { λ r. ⌜ r ≡ scriptOf grid (now (requests .entry)) space (now (offsets .entry)) (now (accesses .entry)) held room ⌝ }
+{
+    let lengths = check_lengths(requests, offsets, accesses, room);
+    if lengths.number != Answer::DONE {
+        return lengths;
+    }
+    let inspected = plan_inspector::judge(grid, requests, space, offsets);
+    if inspected.number != Answer::DONE {
+        return inspected;
+    }
+    judge_accesses(requests, space, accesses, held)
+}
 
-// Performs one touch and gives the byte read or written
+// Performs one touch, and gives the byte read or written.
 fn touch(offsets: &[i32], access: Access, arena: &mut [u8]) -> u8
+    requires { ⌜ byteOf (now offsets) access < length (now arena) ⌝ }
+    requires { ⌜ allowed access ≡ true ⌝ }
+    ensures arena { λ _. ⌜ now (arena .exit) ≡ arenaBy (now (offsets .entry)) access (now (arena .entry)) ⌝ }
+    ensures byte { λ r. ⌜ r ≡ byteBy (now (offsets .entry)) access (now (arena .entry)) ⌝ }
+{
+    let row = access.row;
+    let offset = plan_inspector::proposed_at(offsets, row);
+    let place = offset.0 as usize + access.index as usize;
+    let found = arena[place];
+    if access.reads {
+        return found;
+    }
+    let byte = access.value as u8;
+    arena[place] = byte;
+    byte
+}
 
-// Performs every touch, in script order.
+// Performs every touch, in script order: each finds the arena as the one before left it.
 fn perform(offsets: &[i32], accesses: &[i32], arena: &mut [u8], bytes: &mut [u8])
+    requires { ⌜ Ready (now offsets) (now accesses) (length (now arena)) (length (now bytes)) ⌝ }
+    ensures arena { λ _. ⌜ now (arena .exit) ≡ arenaAfter (now (offsets .entry)) (now (accesses .entry)) (now (arena .entry)) (countOf (now (accesses .entry))) ⌝ }
+    ensures bytes { λ _. ⌜ now (bytes .exit) ≡ replaced (answerByte (now (offsets .entry)) (now (accesses .entry)) (now (arena .entry))) (countOf (now (accesses .entry))) (now (bytes .entry)) ⌝ }
+{
+    let n = accesses.len() / ACCESS_WORDS;
+    let mut k = 0;
+    while k < n {
+        let byte = touch(offsets, access_at(accesses, k), arena);
+        bytes[k] = byte;
+        k += 1;
+    }
+}
 
-pub fn run(requests, space, offsets, accesses, arena, bytes) -> Answer
+// Document 01's touch script. Refused: 1, 2, 3, 4, 5, 8, 9, 7, 10, 12, 11, in that order, and nothing changes; done: all zeros, the arena as the touches
+// leave it, and in the first entries of `bytes` the byte that each read or wrote.
+pub fn run(
+    requests: &[i32],
+    space: u32,
+    offsets: &[i32],
+    accesses: &[i32],
+    arena: &mut [u8],
+    bytes: &mut [u8],
+) -> Answer
+    ensures answer { λ r. ⌜ r ≡ scriptOf gridOf (now (requests .entry)) space (now (offsets .entry)) (now (accesses .entry)) (length (now (arena .entry))) (length (now (bytes .entry))) ⌝ }
+    ensures arena { λ _. ⌜ now (arena .exit) ≡ finalArena gridOf (now (requests .entry)) space (now (offsets .entry)) (now (accesses .entry)) (now (arena .entry)) (now (bytes .entry)) ⌝ }
+    ensures bytes { λ _. ⌜ now (bytes .exit) ≡ finalBytes gridOf (now (requests .entry)) space (now (offsets .entry)) (now (accesses .entry)) (now (arena .entry)) (now (bytes .entry)) ⌝ }
+{
+    let answer = judge(
+        requests::GRID,
+        requests,
+        space,
+        offsets,
+        accesses,
+        arena.len(),
+        bytes.len(),
+    );
+    if answer.number != Answer::DONE {
+        return answer;
+    }
+    perform(offsets, accesses, arena, bytes);
+    answer
+}

@@ -20,7 +20,7 @@ use Rattle.bounded.specs.Pair.{no-pair, none-paired}
 use Rattle.words.specs.Words.{wordAt, natural, isMinusOne}
 use Rattle.words.specs.WordOrders.{within, minus-one-of}
 use Rattle.request_table.specs.Buffers.{occupied, bufferAt, need}
-use Rattle.request_table.specs.CheckLaws.{Checked, numberOf, checked, none-refuses}
+use Rattle.request_table.specs.CheckLaws.{Checked, numberOf, checked}
 use Rattle.request_table.specs.Checks.{tableCauses, checkOf}
 use Rattle.request_table.specs.Colliding.{Colliding, apart, not-colliding}
 use Rattle.request_table.specs.GoodRows.{good-offset}
@@ -29,7 +29,8 @@ use Rattle.request_table.specs.Needs.{EndsThere, need-bounds, need-is-one}
 use Rattle.request_table.specs.Rounding.{occupied-some, occupied-empty}
 use Rattle.request_table.specs.Table.{rows, word, request, fixed, fixedOffset}
 use Rattle.request_table.specs.WellFormed.{WellFormed, passes, passed-is-well-formed}
-use Rattle.inspection_rule.specs.Inspect.{proposed, moved, offGrid, proposedNeed, proposedCollide, inspectCauses, acceptedAnswer, inspectOf}
+use Rattle.inspection_rule.specs.Answers.{proposal-decides}
+use Rattle.inspection_rule.specs.Inspect.{proposed, moved, offGrid, proposedNeed, proposedCollide, ownCauses, inspectCauses, acceptedAnswer, proposalOf, inspectOf}
 
 -- A word that is a multiple of the grid from 0 on.
 pub record Aligned (g : ℕ) (z : ℤ) : Type 0 where
@@ -162,15 +163,12 @@ module _ (g : ℕ) (t : List ℤ) (space : ℕ) (o : List ℤ) where
 
   -- and where none does, the answer is accepted, with the need.
   pub passed-of : Passed g t space o → inspectOf g t space o ≡ doneWith (proposedNeed g t o)
-  unfolding inspectOf
+  unfolding proposalOf
   passed-of p =
-      let five = none-refuses t (length o) g space (p .checks) in
-      follows (inspectCauses g t space o) (acceptedAnswer g t o)
-      (five .0, (five .1 .0, (five .1 .1 .0, (five .1 .1 .1 .0, (five .1 .1 .1 .1 .0,
-      (none-found (moved t o) (rows t) (p .still),
-      (none-found (offGrid g o) (rows t) (p .even),
-      (le-ltb _ _ (p .within-space),
-      (none-paired (proposedCollide g t o) (rows t) (p .clear), tt)))))))))
+      let moved-none = none-found (moved t o) (rows t) (p .still) in
+      let grid-none = none-found (offGrid g o) (rows t) (p .even) in
+      let pair-none = none-paired (proposedCollide g t o) (rows t) (p .clear) in
+      sym (proposal-decides g t space o (p .checks)) ∙ follows (ownCauses g t space o) (acceptedAnswer g t o) (moved-none, (grid-none, (le-ltb _ _ (p .within-space), (pair-none, tt))))
 
   -- What passes is acceptable,
   pub passed-acceptable : 0 < g → Passed g t space o → Acceptable g t space o
