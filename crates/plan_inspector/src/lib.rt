@@ -50,13 +50,12 @@ fn is_off_grid(grid: u32, offsets: &[i32], row: Row) -> bool
     words::is_negative(offsets, row.0) | !requests::on_grid(grid, proposed_at(offsets, row))
 }
 
-// The lowest row with such an offset, else the number of rows.
-fn lowest_off_grid(grid: u32, table: &[i32], offsets: &[i32]) -> Row
-    ensures { λ r. ⌜ r .0 ≡ firstIn (offGrid grid (now (offsets .entry))) 0 (rowsOf (now (table .entry))) ⌝ }
+// The lowest of so many rows with such an offset, else their number.
+fn lowest_off_grid(grid: u32, offsets: &[i32], count: usize) -> Row
+    ensures { λ r. ⌜ r .0 ≡ firstIn (offGrid grid (now (offsets .entry))) 0 count ⌝ }
 {
-    let n = table.len() / requests::ROW_WORDS;
     let mut row = Row(0);
-    while row.0 < n {
+    while row.0 < count {
         if is_off_grid(grid, offsets, row) {
             return row;
         }
@@ -69,7 +68,11 @@ fn lowest_off_grid(grid: u32, table: &[i32], offsets: &[i32]) -> Row
 fn buffer_of(grid: u32, table: &[i32], offsets: &[i32], row: Row) -> Buffer
     ensures { λ r. ⌜ r ≡ bufferAt grid (now (table .entry)) (row .0) (proposed (now (offsets .entry)) (row .0)) ⌝ }
 {
-    requests::buffer_at(grid, requests::request_at(table, row), proposed_at(offsets, row))
+    requests::buffer_at(
+        grid,
+        requests::request_at(table, row),
+        proposed_at(offsets, row),
+    )
 }
 
 // The end of the row's span, in 64 bits, which no proposed offset and no size can pass; an empty row counts for nothing.
@@ -140,7 +143,7 @@ fn judge_offsets(grid: u32, table: &[i32], space: u32, offsets: &[i32]) -> Answe
 {
     let n = table.len() / requests::ROW_WORDS;
     let shifted = lowest_moved(table, offsets);
-    let uneven = lowest_off_grid(grid, table, offsets);
+    let uneven = lowest_off_grid(grid, offsets, n);
     let need = need_of(grid, table, offsets);
     let moved = Answer::refused_at(Answer::FIXED_ROW_MOVED, shifted.0 as u32);
     let off_grid = Answer::refused_at(Answer::BAD_OFFSET, uneven.0 as u32);

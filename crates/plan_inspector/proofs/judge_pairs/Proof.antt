@@ -2,6 +2,7 @@
 use Prim.Native.Nat.{_≤_, _<_, _-_}
 use mathlib.Core.Path.{_≡_, sym, _∙_, ap, ap₂}
 use native.Mathlib.Omega.{arith}
+use denote.Ref.{now}
 use Rattle.answer.specs.Answer.{doneWith, refusedPair, rowsCollide}
 use Rattle.bounded.specs.First.{scan, pass}
 use Rattle.bounded.specs.Pair.{Outer, Inner, inner-out, inner-hit, outer-out}
@@ -44,6 +45,10 @@ buffer-of-requires-2 c κs = tt
 collide-requires : tie.Need-collide-requires Inv-loop μ-loop Inv-scan μ-scan
 collide-requires c κs = tt
 
+-- what is tested of the two rows
+test-is : (c : tie.After-collide Inv-loop μ-loop Inv-scan μ-scan) → let u = c .before .before .before .before .before .before .before .before .before .before .before .args in c .collide .result ≡ proposedCollide (u .grid) (now (u .table)) (now (u .offsets)) (c .before .before .before .before .before .before .before .before .before .scan .a .0) (c .before .before .before .before .loop .b .0)
+test-is c = c .collide .ensures ∙ ap₂ collides (c .before .before .before .before .before .before .buffer-of .ensures) (c .before .buffer-of2 .ensures)
+
 cast-refused-pair : tie.Need-cast-refused-pair Inv-loop μ-loop Inv-scan μ-scan
 cast-refused-pair c = omega (arith, c .before .before .before .before .before .before .before .before .before .if1 .taken, c .before .before .before .before .before .before .before .before .before .before .before .before .before .pre .0)
 
@@ -63,8 +68,7 @@ loop-again : tie.Need-loop-again Inv-loop μ-loop Inv-scan μ-scan
 loop-again c =
     let i = c .before .before .before .before .before .before .loop .inv in
     let l = c .before .before .before .before .if2 .taken in
-    let e = c .before .before .collide .ensures ∙ ap₂ collides (c .before .before .before .before .before .before .before .before .buffer-of .ensures) (c .before .before .before .buffer-of2 .ensures) in
-    ((i .0 .0, pass (i .0 .1) l (sym e ∙ c .before .if3 .left)), i .1, omega arith, omega arith)
+    ((i .0 .0, pass (i .0 .1) l (sym (test-is (c .before .before)) ∙ c .before .if3 .left)), i .1, omega arith, omega arith)
 
 add-t12-2 : tie.Need-add-t12-2 Inv-loop μ-loop Inv-scan μ-scan
 add-t12-2 c = omega (arith, c .before .before .before .before .before .before .if1 .taken)
@@ -82,8 +86,7 @@ returns c =
 
 returns-2 : tie.Need-returns-2 Inv-loop μ-loop Inv-scan μ-scan
 returns-2 c =
-    let e = c .before .before .before .before .collide .ensures ∙ ap₂ collides (c .before .before .before .before .before .before .before .before .before .before .buffer-of .ensures) (c .before .before .before .before .before .buffer-of2 .ensures) in
-    let p = inner-hit _ _ _ _ (c .before .before .before .before .before .before .before .before .before .before .before .if1 .taken) (c .before .before .before .before .before .before .if2 .taken) (sym e ∙ c .before .before .before .if3 .taken) (c .before .before .before .before .before .before .before .before .loop .inv .0) in
+    let p = inner-hit _ _ _ _ (c .before .before .before .before .before .before .before .before .before .before .before .if1 .taken) (c .before .before .before .before .before .before .if2 .taken) (sym (test-is (c .before .before .before .before)) ∙ c .before .before .before .if3 .taken) (c .before .before .before .before .before .before .before .before .loop .inv .0) in
     c .refused-pair .ensures ∙ ap₂ (refusedPair rowsCollide) (p .1) (p .2) ∙ pair-refused _ _ _ (p .0)
 
 pub judge-pairs-spec : {M : Type 1} → statement M

@@ -8,10 +8,10 @@ use Rattle.plan_inspector.proofs.lowest_off_grid.Statement.{statement}
 use Rattle.plan_inspector.proofs.lowest_off_grid.Tie as tie
 
 abbrev Inv-loop : tie.InvT-loop
-Inv-loop grid table offsets n row₀ row = Scan (offGrid grid offsets) 0 n (row .0)
+Inv-loop grid offsets count row₀ row = Scan (offGrid grid offsets) 0 count (row .0)
 
 abbrev μ-loop : tie.MeasureT-loop
-μ-loop grid table offsets n row₀ row = n - row .0
+μ-loop grid offsets count row₀ row = count - row .0
 
 loop-holds : tie.Need-loop-holds Inv-loop μ-loop
 loop-holds c = scan _ _ _
@@ -22,8 +22,8 @@ is-off-grid-requires c κs = tt
 returns : tie.Need-returns Inv-loop μ-loop
 returns c = hit (c .before .before .before .before .loop .inv) (c .before .before .if1 .taken) (sym (c .before .is-off-grid .ensures) ∙ c .if2 .taken)
 
-add-t9 : tie.Need-add-t9 Inv-loop μ-loop
-add-t9 c = omega (arith, c .before .before .before .if1 .taken)
+add-t7 : tie.Need-add-t7 Inv-loop μ-loop
+add-t7 c = omega (arith, c .before .before .before .if1 .taken)
 
 loop-less : tie.Need-loop-less Inv-loop μ-loop
 loop-less c = omega (arith, c .before .before .before .if1 .taken)
@@ -43,7 +43,7 @@ lowest-off-grid-spec =
     loop-holds
     is-off-grid-requires
     returns
-    add-t9
+    add-t7
     loop-less
     loop-again
     returns-2)
