@@ -3,11 +3,12 @@ use Prim.Native.Nat.{ℕ, _<_, _≤_}
 use mathlib.Core.Bool.{true, false}
 use mathlib.Core.List.{List, _++_}
 use mathlib.Core.Path.{_≡_, refl, sym, _∙_}
+use native.Mathlib.Omega.{arith}
 use borrow.Author.Tests.{lt-ltb, le-ltb}
 use lib.IntN.{ℤ}
 use lib.ListN.{length}
 use Rattle.answer.specs.Answer.{doneWith, refusedAt, refusedPair, refusedNeed, needExceedsSpace, fixedRowMoved, badOffset, rowsCollide}
-use Rattle.bounded.specs.Causes.{NoneHolds, firstCause, follows, follows-more, refused-stands}
+use Rattle.bounded.specs.Causes.{NoneHolds, AllRefuse, firstCause, follows, follows-more, passed, refused-stands}
 use Rattle.bounded.specs.First.{firstIn, holdsBelow}
 use Rattle.bounded.specs.Pair.{pairBelow, pairFirst, pairSecond}
 use Rattle.request_table.specs.CheckLaws.{Checked, numberOf, none-refuses}
@@ -75,3 +76,11 @@ module _ (g : ℕ) (t : List ℤ) (o : List ℤ) where
   pub accepted : pairBelow (proposedCollide g t o) (rows t) ≡ false → doneWith (proposedNeed g t o) ≡ pairOf g t o
   unfolding pairOf
   accepted e = sym (follows (pairCauses g t o) (acceptedAnswer g t o) (e, tt))
+
+  pair-refuses : AllRefuse numberOf (pairCauses g t o)
+  pair-refuses = (omega arith, tt)
+
+  -- The answer 0 of the check 10 is that acceptance.
+  pub passed-is-accepted : pairOf g t o .number ≡ 0 → doneWith (proposedNeed g t o) ≡ pairOf g t o
+  unfolding pairOf
+  passed-is-accepted e = accepted (passed numberOf (pairCauses g t o) (acceptedAnswer g t o) pair-refuses e .0 .0)
