@@ -25,7 +25,7 @@ use Rattle.words.specs.WordOrders.{within, natural-of}
 use Rattle.request_table.specs.Buffers.{bufferAt, end}
 use Rattle.request_table.specs.CheckLaws.{numberOf}
 use Rattle.request_table.specs.GoodRows.{GoodRow}
-use Rattle.request_table.specs.Limits.{greatestRows}
+use Rattle.request_table.specs.Limits.{grid, greatestRows}
 use Rattle.request_table.specs.Table.{rows, request}
 use Rattle.inspection_rule.specs.ExactRule.{Passed, passed-says, passed-acceptable}
 use Rattle.inspection_rule.specs.Inspect.{proposed, proposedNeed, inspectOf}
@@ -263,3 +263,7 @@ module _ (g : ℕ) (t : List ℤ) (space : ℕ) (o s : List ℤ) (arena bytes : 
         last-write = last;
         byte-lent = lent-byte;
       }
+
+-- And at the grid of the entry points, whose contracts are about the same definitions.
+pub demand3-at-grid : (t : List ℤ) (space : ℕ) (o s : List ℤ) (arena bytes : List ℕ) → Lent grid t space o s arena bytes → Demand3 grid t space o s arena bytes
+demand3-at-grid t space o s arena bytes l = demand3 grid t space o s arena bytes (omega arith) l
