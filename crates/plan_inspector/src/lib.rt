@@ -16,7 +16,8 @@ use units::Row;
 pub fn proposed_at(offsets: &[i32], row: Row) -> Offset
     ensures { λ r. ⌜ r .0 ≡ proposed (now (offsets .entry)) (row .0) ⌝ }
 {
-    Offset(words::natural(offsets, row.0) as u64)
+    let place = words::natural(offsets, row.0) as u64;
+    Offset(place)
 }
 
 // Whether the row is fixed and was moved.

@@ -1,6 +1,6 @@
 -- `plan_inspector::is_moved` meets its contract.
 use borrow.Author.Needs.{needs}
-use Rattle.inspection_rule.specs.Inspect.{moved}
+use Rattle.plan_inspector.proofs.Moved.{moved-is}
 use Rattle.plan_inspector.proofs.is_moved.Statement.{statement}
 use Rattle.plan_inspector.proofs.is_moved.Tie as tie
 
@@ -11,8 +11,7 @@ proposed-at-requires : tie.Need-proposed-at-requires
 proposed-at-requires c κs = search needs
 
 returns : tie.Need-returns
-unfolding moved
-returns c = cc
+returns c = search (moved-is, needs)
 
 pub is-moved-spec : {M : Type 1} → statement M
 is-moved-spec = tie.close (tie.spec request-at-requires proposed-at-requires returns)

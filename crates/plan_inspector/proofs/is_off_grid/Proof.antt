@@ -1,5 +1,8 @@
 -- `plan_inspector::is_off_grid` meets its contract.
+use mathlib.Core.Bool.{Bool, not, _||_}
+use mathlib.Core.Path.{_∙_, ap, ap₂}
 use borrow.Author.Needs.{needs}
+use Rattle.request_table.specs.Table.{onGrid}
 use Rattle.inspection_rule.specs.Inspect.{offGrid}
 use Rattle.plan_inspector.proofs.is_off_grid.Statement.{statement}
 use Rattle.plan_inspector.proofs.is_off_grid.Tie as tie
@@ -15,7 +18,9 @@ on-grid-requires c κs = search needs
 
 returns : tie.Need-returns
 unfolding offGrid
-returns c = cc
+returns c =
+    ap₂ (λ (negative on : Bool). negative || not on) (c .before .before .is-negative .ensures)
+    (c .on-grid .ensures ∙ ap (onGrid (c .before .before .before .args .grid)) (c .before .proposed-at .ensures))
 
 pub is-off-grid-spec : {M : Type 1} → statement M
 is-off-grid-spec =
