@@ -3,5 +3,5 @@ pub mod Ordering
 pub mod Insertion
 pub mod Shifting
 pub mod Filling
-pub mod Needing
+pub mod RowBuffer
 pub mod Tables

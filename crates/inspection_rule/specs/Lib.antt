@@ -1,2 +1,3 @@
 pub mod Inspect
 pub mod Accepted
+pub mod Answers

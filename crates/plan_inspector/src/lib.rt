@@ -1,12 +1,12 @@
 // The plan inspector: judges a plan that anyone may have proposed, one offset for each row of the request table (document 01, "The desk's order of
 // checks"). All is read where it lies; nothing is written.
-ghost use Prim.Native.Nat.{_≤_};
+ghost use Prim.Native.Nat.{_≤_, max};
 ghost use mathlib.Core.Path.{_≡_};
 ghost use Rattle.bounded.specs.First.{firstIn};
 ghost use Rattle.request_table.specs.Buffers.{bufferAt, endOrZero};
 ghost use Rattle.request_table.specs.Limits.{grid as gridOf, greatestRows};
 ghost use Rattle.request_table.specs.Table.{rows as rowsOf};
-ghost use Rattle.inspection_rule.specs.Inspect.{proposed, moved, offGrid, proposedNeed, proposedCollide, pairOf, placedOf, proposalOf, inspectOf};
+ghost use Rattle.inspection_rule.specs.Inspect.{proposed, moved, offGrid, proposedNeed, pairOf, proposalOf, inspectOf};
 use answer::Answer;
 use request_table::Buffer;
 use units::Offset;
@@ -76,11 +76,23 @@ fn buffer_of(grid: u32, table: &[i32], offsets: &[i32], row: Row) -> Buffer
 fn end_of(grid: u32, table: &[i32], offsets: &[i32], row: Row) -> u64
     ensures { λ r. ⌜ r ≡ endOrZero (bufferAt grid (now (table .entry)) (row .0) (proposed (now (offsets .entry)) (row .0))) ⌝ }
 {
-    let buffer = buffer_of(grid, table, offsets, row);
-    if 0 < buffer.length {
-        return buffer.offset.0 + buffer.length;
+    let request = requests::request_at(table, row);
+    let length = requests::occupied_size(grid, request.size);
+    let start = words::natural(offsets, row.0);
+    if 0 < length {
+        return start as u64 + length;
     }
     0
+}
+
+// The larger of two ends.
+fn larger(a: u64, b: u64) -> u64
+    ensures { λ r. ⌜ r ≡ max a b ⌝ }
+{
+    if a < b {
+        return b;
+    }
+    a
 }
 
 // The need of the proposed plan: the greatest end of a nonempty row.
@@ -91,10 +103,7 @@ fn need_of(grid: u32, table: &[i32], offsets: &[i32]) -> u64
     let mut need = 0;
     let mut row = Row(0);
     while row.0 < n {
-        let end = end_of(grid, table, offsets, row);
-        if need < end {
-            need = end;
-        }
+        need = larger(need, end_of(grid, table, offsets, row));
         row = Row(row.0 + 1);
     }
     need
@@ -124,33 +133,36 @@ fn judge_pairs(grid: u32, table: &[i32], offsets: &[i32], need: u64) -> Answer
     answer
 }
 
-// The checks 7 and 10.
-fn judge_plan(grid: u32, table: &[i32], space: u32, offsets: &[i32]) -> Answer
-    requires { ⌜ rowsOf (now table) ≤ greatestRows ⌝ }
-    ensures { λ r. ⌜ r ≡ placedOf grid (now (table .entry)) space (now (offsets .entry)) ⌝ }
-{
-    let need = need_of(grid, table, offsets);
-    if (space as u64) < need {
-        return Answer::refused_need(Answer::NEED_EXCEEDS_SPACE, need);
-    }
-    judge_pairs(grid, table, offsets, need)
-}
-
-// The checks 8, 9, 7 and 10.
+// The checks 8, 9, 7 and 10. Each is worked out before the first is told, so that their order stands in one place.
 fn judge_offsets(grid: u32, table: &[i32], space: u32, offsets: &[i32]) -> Answer
     requires { ⌜ rowsOf (now table) ≤ greatestRows ⌝ }
     ensures { λ r. ⌜ r ≡ proposalOf grid (now (table .entry)) space (now (offsets .entry)) ⌝ }
 {
     let n = table.len() / requests::ROW_WORDS;
     let shifted = lowest_moved(table, offsets);
-    if shifted.0 < n {
-        return Answer::refused_at(Answer::FIXED_ROW_MOVED, shifted.0 as u32);
-    }
     let uneven = lowest_off_grid(grid, table, offsets);
-    if uneven.0 < n {
-        return Answer::refused_at(Answer::BAD_OFFSET, uneven.0 as u32);
+    let need = need_of(grid, table, offsets);
+    let moved = Answer::refused_at(Answer::FIXED_ROW_MOVED, shifted.0 as u32);
+    let off_grid = Answer::refused_at(Answer::BAD_OFFSET, uneven.0 as u32);
+    let too_much = Answer::refused_need(Answer::NEED_EXCEEDS_SPACE, need);
+    let paired = judge_pairs(grid, table, offsets, need);
+    let has_moved = shifted.0 < n;
+    let has_off_grid = uneven.0 < n;
+    let exceeds = (space as u64) < need;
+    let collide = paired.number != Answer::DONE;
+    if has_moved {
+        return moved;
     }
-    judge_plan(grid, table, space, offsets)
+    if has_off_grid {
+        return off_grid;
+    }
+    if exceeds {
+        return too_much;
+    }
+    if collide {
+        return paired;
+    }
+    Answer::done(need)
 }
 
 // The inspector on any grid.

@@ -68,7 +68,7 @@ pub fn occupied_size(grid: u32, size: u32) -> u64
 }
 
 // Whether the offset is a multiple of the grid.
-fn on_grid(grid: u32, offset: Offset) -> bool
+pub fn on_grid(grid: u32, offset: Offset) -> bool
     ensures { λ r. ⌜ r ≡ onGrid grid (offset .0) ⌝ }
 {
     if grid == 0 {

@@ -5,6 +5,8 @@
 pub mod bytes;
 
 ghost use mathlib.Core.Path.{_≡_};
+ghost use lib.IntN.{pos};
+ghost use lib.Signed.{ltZ};
 ghost use Rattle.words.specs.Words.{wordAt, natural as naturalOf, isMinusOne};
 
 // The word as a natural number; a negative one stands as 4,294,967,295, which is above every limit.
@@ -30,4 +32,15 @@ pub fn is_minus_one(table: &[i32], at: usize) -> bool
         return word == -1;
     }
     false
+}
+
+// Whether the word is below 0.
+pub fn is_negative(table: &[i32], at: usize) -> bool
+    ensures { λ r. ⌜ r ≡ ltZ (wordAt (now (table .entry)) at) (pos 0) ⌝ }
+{
+    if table.len() <= at {
+        return false;
+    }
+    let word = table[at];
+    word < 0
 }

@@ -1,19 +1,24 @@
 -- `greedy_planner::need::need_of` meets its contract: the greatest end of the rows so far.
 use Prim.Native.Nat.{_-_}
+use mathlib.Core.Path.{ap}
 use native.Mathlib.Omega.{arith}
+use Rattle.request_table.specs.Buffers.{endOrZero}
+use Rattle.request_table.specs.Needs.{Needing, needing-start, needing-more, needing-done}
 use Rattle.request_table.specs.Rounding.{occupied-most}
-use Rattle.greedy_planner.proofs.Needing.{Needing, needing-start, needing-more, needing-done, row-buffer}
+use Rattle.greedy_rule.specs.Greedy.{greedyPlan}
+use Rattle.greedy_rule.specs.Plan.{greedyNeed}
+use Rattle.greedy_planner.proofs.RowBuffer.{row-buffer}
 use Rattle.greedy_planner.proofs.need.need_of.Statement.{statement}
 use Rattle.greedy_planner.proofs.need.need_of.Tie as tie
 
 abbrev Inv-loop : tie.InvT-loop
-Inv-loop grid table offsets n need₀ row₀ need row = Needing grid table need (row .0)
+Inv-loop grid table offsets n need₀ row₀ need row = Needing grid table (greedyPlan grid table) need (row .0)
 
 abbrev μ-loop : tie.MeasureT-loop
 μ-loop grid table offsets n need₀ row₀ need row = n - row .0
 
 loop-holds : tie.Need-loop-holds Inv-loop μ-loop
-loop-holds c = needing-start _ _
+loop-holds c = needing-start _ _ _
 
 request-at-requires : tie.Need-request-at-requires Inv-loop μ-loop
 request-at-requires c κs = tt
@@ -46,9 +51,10 @@ loop-again c =
     let u = c .before .before .before .before .before .before .before in
     let i = c .before .before .before .before .before .before .loop .row .0 in
     let l = c .before .before .before .before .if1 .taken in
-    needing-more (c .before .before .before .before .before .before .loop .inv) l (row-buffer (u .args .grid) _ i (c .before .before .before .request-at .ensures) (u .pre .1 .each i l) (c .before .buffer-at .ensures)) (c .raised .ensures)
+    needing-more (c .before .before .before .before .before .before .loop .inv) l (ap endOrZero (row-buffer (u .args .grid) _ i (c .before .before .before .request-at .ensures) (u .pre .1 .each i l) (c .before .buffer-at .ensures))) (c .raised .ensures)
 
 returns : tie.Need-returns Inv-loop μ-loop
+unfolding greedyNeed
 returns c = needing-done (c .before .before .loop .inv) (c .if1 .left)
 
 pub need-of-spec : {M : Type 1} → statement M
