@@ -5,10 +5,12 @@ use mathlib.Core.List.{List}
 use mathlib.Core.Path.{_≡_, _∙_, ap}
 use native.Mathlib.Numerals.{add-one}
 use native.Mathlib.Omega.{arith}
-use lib.Dec.{leb}
+use lib.Dec.{leb, ltb}
 use lib.IntN.{ℤ}
 use Rattle.words.specs.Words.{wordAt, natural, isMinusOne}
-use Rattle.access_rule.specs.Accesses.{word, access, momentBefore, reaches, good}
+use Rattle.request_table.specs.Table.{rows, request}
+use Rattle.request_table.specs.declared.Request.{Request}
+use Rattle.access_rule.specs.Accesses.{word, access, momentBefore, alive, allowed, reaches, good}
 use Rattle.access_rule.specs.declared.Access.{Access}
 
 -- A touch, from its words.
@@ -20,6 +22,14 @@ access-is s k m r i b v =
     let start : k * 4 ≡ k * 4 + 0 = omega arith in
     let first = m ∙ ap (λ (n : ℕ). natural (wordAt s n)) start in
     λ j. record { moment = record { 0 = first j }; row = record { 0 = r j }; index = i j; reads = b j; value = v j }
+
+-- The test on the request that was read is the test on the row that the touch names.
+pub test-is : (t : List ℤ) (m : ℕ) (a : Access) {x : Request} → x ≡ request t (a .row .0)
+    → leb m (a .moment .0) && (ltb (a .row .0) (rows t) && (alive x (a .moment) && (ltb (a .index) (x .size) && allowed a)))
+    ≡ leb m (a .moment .0) && reaches t a
+unfolding reaches
+test-is t m a e =
+    ap (λ (y : Request). leb m (a .moment .0) && (ltb (a .row .0) (rows t) && (alive y (a .moment) && (ltb (a .index) (y .size) && allowed a)))) e
 
 -- The test that the code makes is the document's.
 pub good-is : (t s : List ℤ) (k : ℕ) {m : ℕ} {a : Access} {r : Bool} → m ≡ momentBefore s k → a ≡ access s k → r ≡ leb m (a .moment .0) && reaches t a → r ≡ good t s k

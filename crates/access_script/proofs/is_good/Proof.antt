@@ -1,6 +1,7 @@
 -- `access_script::is_good` meets its contract.
+use denote.Ref.{now}
 use borrow.Author.Needs.{needs}
-use Rattle.access_rule.specs.Accesses.{reaches}
+use Rattle.access_script.proofs.Judging.{test-is}
 use Rattle.access_script.proofs.is_good.Statement.{statement}
 use Rattle.access_script.proofs.is_good.Tie as tie
 
@@ -8,8 +9,10 @@ request-at-requires : tie.Need-request-at-requires
 request-at-requires c κs = search needs
 
 returns : tie.Need-returns
-unfolding reaches
-returns c = cc
+returns c =
+    let read = c .before .before .before .before .before .before .before .before .before .before .before in
+    let a = read .before .before .args in
+    test-is (now (a .table)) (a .before .0) (a .access) (read .request-at .ensures)
 
 pub is-good-spec : {M : Type 1} → statement M
 is-good-spec = tie.close (tie.spec request-at-requires returns)
