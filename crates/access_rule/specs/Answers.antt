@@ -51,6 +51,14 @@ module _ (t : List ℤ) (space : ℕ) (s : List ℤ) (held : ℕ) where
   unfolding touchesOf holdsBelow
   touches-passed h l = rw (le-ltb _ _ h, firstCause, le-ltb _ _ l, firstCause)
 
+  touch-refuses : AllRefuse numberOf (ownCausesOf t space s held)
+  touch-refuses = (omega arith, (omega arith, tt))
+
+  -- Both pass: the answer is done, with all zeros.
+  pub touches-done : touchesOf t space s held .number ≡ 0 → doneWith 0 ≡ touchesOf t space s held
+  unfolding touchesOf
+  touches-done e = sym (follows (ownCausesOf t space s held) (doneWith 0) (passed numberOf (ownCausesOf t space s held) (doneWith 0) touch-refuses e .0))
+
 -- ---- the checks 1 to 3
 
 neither : (x y : Bool) → x || y ≡ false → (x ≡ false) × (y ≡ false)

@@ -4,7 +4,7 @@ use native.Mathlib.Omega.{arith}
 use denote.Ref.{now}
 use borrow.Author.Needs.{needs}
 use Rattle.request_table.specs.CheckLaws.{numberOf}
-use Rattle.access_rule.specs.Answers.{Sized, lengths-passed, lengths-stand, inspection-stands, touches-decide}
+use Rattle.access_rule.specs.Answers.{Sized, lengths-passed, lengths-stand, inspection-stands, touches-decide, touches-done}
 use Rattle.access_script.proofs.judge.Statement.{statement}
 use Rattle.access_script.proofs.judge.Tie as tie
 
@@ -43,9 +43,21 @@ judge-accesses-requires c κs = sized (c .before .before .before) .few-accesses
 
 returns-3 : tie.Need-returns-3
 returns-3 c =
-    let u = c .before .before .before .before .before .before .before .args in
-    let accepted = sym (ap numberOf (c .before .before .before .judge .ensures)) ∙ c .before .if2 .left in
-    c .judge-accesses .ensures ∙ touches-decide _ _ _ _ (u .grid) (u .space) (u .held) (sized (c .before .before .before .before)) accepted
+    let u = c .before .before .before .before .before .before .before .before .before .args in
+    let accepted = sym (ap numberOf (c .before .before .before .before .before .judge .ensures)) ∙ c .before .before .before .if2 .left in
+    c .before .before .judge-accesses .ensures
+    ∙ touches-decide _ _ _ _ (u .grid) (u .space) (u .held) (sized (c .before .before .before .before .before .before)) accepted
+
+done-requires : tie.Need-done-requires
+done-requires c κs = search needs
+
+returns-4 : tie.Need-returns-4
+returns-4 c =
+    let u = c .before .before .before .before .before .before .before .before .before .before .args in
+    let accepted = sym (ap numberOf (c .before .before .before .before .before .before .judge .ensures)) ∙ c .before .before .before .before .if2 .left in
+    c .done .ensures
+    ∙ touches-done _ _ _ _ (sym (ap numberOf (c .before .before .before .judge-accesses .ensures)) ∙ c .before .if3 .left)
+    ∙ touches-decide _ _ _ _ (u .grid) (u .space) (u .held) (sized (c .before .before .before .before .before .before .before)) accepted
 
 pub judge-spec : {M : Type 1} → statement M
 judge-spec =
@@ -56,4 +68,6 @@ judge-spec =
     judge-requires
     returns-2
     judge-accesses-requires
-    returns-3)
+    returns-3
+    done-requires
+    returns-4)
