@@ -95,15 +95,17 @@ pub record Demand3 (g : ℕ) (t : List ℤ) (space : ℕ) (o s : List ℤ) (aren
 
 -- ---- a touch's words, and the touch as the code has it
 
+-- A touch that reads, as the code has it,
 pub reads-of : (s : List ℤ) (k : ℕ) → Reads s k → access s k .reads ≡ true
 unfolding access isMinusOne
 reads-of s k e = ap isMinusOne e
 
+-- and one that writes.
 pub writes-of : (s : List ℤ) (k v : ℕ) → Writes s k v → (access s k .reads ≡ false) × (access s k .value ≡ v)
 unfolding access isMinusOne natural
 writes-of s k v e = (ap isMinusOne e, ap natural e)
 
--- a good touch that does not read writes a byte
+-- A good touch that does not read writes a byte.
 pub write-says : (t s : List ℤ) (k : ℕ) → good t s k ≡ true → access s k .reads ≡ false → Writes s k (access s k .value)
 unfolding access
 write-says t s k e f =
@@ -123,6 +125,7 @@ natural-word : {x : ℤ} {n : ℕ} → x ≡ pos n → x ≡ pos (natural x)
 unfolding natural
 natural-word e = e ∙ ap pos (sym (ap natural e))
 
+-- The byte on which a touch falls is the one that the run works on.
 pub falls : (o s : List ℤ) (k : ℕ) → byteOf o (access s k) ≡ fallsOn o s k
 unfolding byteOf access
 falls o s k = refl

@@ -86,9 +86,11 @@ module _ (c e : ℕ → ℕ → Bool) (n : ℕ) (f : (a b : ℕ) → a < b → b
   pub pair-same : (pairBelow c n ≡ pairBelow e n) × (pairFirst c n ≡ pairFirst e n) × (pairSecond c n ≡ pairSecond e n)
   unfolding pairBelow pairFirst pairSecond partner
   pair-same =
-      let q = first-same (hasPartner c n) (hasPartner e n) 0 n (λ k l m. same-partner k) in
-      (holds-same (hasPartner c n) (hasPartner e n) n (λ k m. same-partner k), q,
-      ap (λ (a : ℕ). firstIn (c a) (a + 1) n) q ∙ first-same (c (firstIn (hasPartner e n) 0 n)) (e (firstIn (hasPartner e n) 0 n)) (firstIn (hasPartner e n) 0 n + 1) n (λ k l m. f _ k (omega arith) m))
+      let q = first-same (hasPartner c n) (hasPartner e n) 0 n (λ k l m. same-partner k) in (
+        holds-same (hasPartner c n) (hasPartner e n) n (λ k m. same-partner k),
+        q,
+        ap (λ (a : ℕ). firstIn (c a) (a + 1) n) q ∙ first-same (c (firstIn (hasPartner e n) 0 n)) (e (firstIn (hasPartner e n) 0 n)) (firstIn (hasPartner e n) 0 n + 1) n (λ k l m. f _ k (omega arith) m),
+      )
 
 -- ---- for two nested loops
 

@@ -58,6 +58,7 @@ fixed-says : (t : List ℤ) (r : ℕ) → fixed t r ≡ true → word t r 3 ≡ 
 unfolding request isMinusOne
 fixed-says t r e q = contrary e (ap (λ (z : ℤ). not (isMinusOne z)) q)
 
+-- A row whose offset word is not −1 is fixed.
 pub fixed-of : (t : List ℤ) (r : ℕ) → (word t r 3 ≡ negsuc 0 → ⊥) → fixed t r ≡ true
 unfolding request
 fixed-of t r f = go (isMinusOne (word t r 3)) refl
@@ -71,6 +72,7 @@ same-word : (x y : ℤ) → natural x ≡ natural y → natural y ≤ greatestSp
 same-word x y e l =
     within x greatestSpace (omega arith) (omega arith) .is ∙ ap pos e ∙ sym (within y greatestSpace (omega arith) l .is)
 
+-- The offset of a fixed row is what its word reads as.
 pub own-offset : (t : List ℤ) (r : ℕ) → fixedOffset t r ≡ natural (word t r 3)
 unfolding request
 own-offset t r = refl

@@ -51,7 +51,7 @@ module _ (g : ℕ) (t : List ℤ) (space : ℕ) (o other : List ℤ) (same : (r 
         same-need,
         p .0,
         p .1,
-        p .2
+        p .2,
       )
 
   same-checks : rows t ≤ length o → rows t ≤ length other → tableCauses g t space (length o) ≡ tableCauses g t space (length other)

@@ -24,6 +24,7 @@ within (negsuc n) high l h = absurd (omega arith)
 pub le-of : (m n : ℕ) → m ≤ n → pos m ≤ℤ pos n
 le-of m n h = leZ-yes (subst T (sym (le-leb m n h)) tt)
 
+-- also the strict one,
 pub lt-of : (m n : ℕ) → m < n → pos m <ℤ pos n
 lt-of m n h = ltZ-yes (subst T (sym (lt-ltb m n h)) tt)
 
@@ -31,6 +32,7 @@ lt-of m n h = ltZ-yes (subst T (sym (lt-ltb m n h)) tt)
 pub of-le : (m n : ℕ) → pos m ≤ℤ pos n → m ≤ n
 of-le m n h = leb→le m n (h .le)
 
+-- Of the strict one too.
 pub of-lt : (m n : ℕ) → pos m <ℤ pos n → m < n
 of-lt m n h = ltb→lt m n (h .lt)
 
