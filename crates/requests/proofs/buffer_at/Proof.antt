@@ -1,5 +1,6 @@
 -- `requests::buffer_at` meets its contract.
 use borrow.Author.Needs.{needs}
+use Rattle.requests.proofs.Tests.{buffer-is}
 use Rattle.requests.proofs.buffer_at.Statement.{statement}
 use Rattle.requests.proofs.buffer_at.Tie as tie
 
@@ -7,7 +8,7 @@ occupied-size-requires : tie.Need-occupied-size-requires
 occupied-size-requires c κs = search needs
 
 returns : tie.Need-returns
-returns c = cc
+returns c = let u = c .before .before .before .args in buffer-is (u .grid) (u .request) (u .offset) (c .before .before .occupied-size .ensures)
 
 pub buffer-at-spec : {M : Type 1} → statement M
 buffer-at-spec = tie.close (tie.spec occupied-size-requires returns)

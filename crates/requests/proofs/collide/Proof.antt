@@ -1,6 +1,6 @@
 -- `requests::collide` meets its contract.
 use borrow.Author.Needs.{needs}
-use Rattle.request_table.specs.Buffers.{collides, shareByte}
+use Rattle.requests.proofs.Tests.{collide-is}
 use Rattle.requests.proofs.collide.Statement.{statement}
 use Rattle.requests.proofs.collide.Tie as tie
 
@@ -14,8 +14,9 @@ ends-after-requires-2 : tie.Need-ends-after-requires-2
 ends-after-requires-2 c κs = search needs
 
 returns : tie.Need-returns
-unfolding collides shareByte
-returns c = cc
+returns c =
+    let u = c .before .before .before .before .before .args in
+    collide-is (u .a) (u .b) (c .before .before .live-together .ensures) (c .before .ends-after .ensures) (c .ends-after2 .ensures)
 
 pub collide-spec : {M : Type 1} → statement M
 collide-spec =

@@ -1,6 +1,6 @@
 -- `requests::is_good` meets its contract.
 use borrow.Author.Needs.{needs}
-use Rattle.request_table.specs.Table.{good}
+use Rattle.requests.proofs.Tests.{good-is}
 use Rattle.requests.proofs.is_good.Statement.{statement}
 use Rattle.requests.proofs.is_good.Tie as tie
 
@@ -11,8 +11,7 @@ cast-placed : tie.Need-cast-placed
 cast-placed c = search needs
 
 returns : tie.Need-returns
-unfolding good
-returns c = cc
+returns c = let u = c .before .before .before .before .before .before .args in good-is (u .grid) (u .request) (c .before .before .on-grid .ensures)
 
 pub is-good-spec : {M : Type 1} → statement M
 is-good-spec = tie.close (tie.spec on-grid-requires cast-placed returns)

@@ -1,6 +1,9 @@
 -- `requests::request_at` meets its contract.
 use borrow.Author.Needs.{needs}
-use Rattle.request_table.specs.Table.{request}
+use mathlib.Core.Path.{_∙_, ap}
+use denote.Ref.{now}
+use Rattle.words.specs.Words.{natural, isMinusOne}
+use Rattle.requests.proofs.Tests.{row-is}
 use Rattle.requests.proofs.request_at.Statement.{statement}
 use Rattle.requests.proofs.request_at.Tie as tie
 
@@ -35,8 +38,17 @@ cast-t13 : tie.Need-cast-t13
 cast-t13 c = search needs
 
 returns : tie.Need-returns
-unfolding request
-returns c = cc
+returns c =
+    let one = c .before .before .before .before .before .before .before in
+    let two = c .before .before .before .before .before in
+    let three = c .before .before .before in
+    let place = c .before .before .place-of4 .ensures in
+    row-is (now (one .before .before .args .table)) (one .before .before .args .row .0)
+    (one .natural .ensures ∙ ap natural (one .before .place-of .ensures))
+    (two .natural2 .ensures ∙ ap natural (two .before .place-of2 .ensures))
+    (three .natural3 .ensures ∙ ap natural (three .before .place-of3 .ensures))
+    (c .before .is-minus-one .ensures ∙ ap isMinusOne place)
+    (c .natural4 .ensures ∙ ap natural place)
 
 pub request-at-spec : {M : Type 1} → statement M
 request-at-spec =
