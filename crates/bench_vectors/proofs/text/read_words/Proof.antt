@@ -1,0 +1,64 @@
+-- `bench_vectors::text::read_words` meets its contract: the words read stay within the table, which keeps its length.
+use Prim.Native.Nat.{_≤_, _-_}
+use mathlib.Core.Path.{_≡_}
+use borrow.Author.Needs.{needs}
+use lib.ListN.{length}
+use Rattle.bench_vectors.proofs.text.read_words.Statement.{statement}
+use Rattle.bench_vectors.proofs.text.read_words.Tie as tie
+
+abbrev Inv-loop : tie.InvT-loop
+Inv-loop text table₀ words₀ start₀ table words start = (words .count ≤ length table) × (length table ≡ length table₀)
+
+abbrev μ-loop : tie.MeasureT-loop
+μ-loop text table₀ words₀ start₀ table words start = length text - start
+
+loop-holds : tie.Need-loop-holds Inv-loop μ-loop
+loop-holds c = search needs
+
+find-requires : tie.Need-find-requires Inv-loop μ-loop
+find-requires c κs = search needs
+
+sub-put : tie.Need-sub-put Inv-loop μ-loop
+sub-put c = search needs
+
+part-put-start : tie.Need-part-put-start Inv-loop μ-loop
+part-put-start c = search needs
+
+part-put-end : tie.Need-part-put-end Inv-loop μ-loop
+part-put-end c = search needs
+
+put-requires : tie.Need-put-requires Inv-loop μ-loop
+put-requires c κs = search needs
+
+after-requires : tie.Need-after-requires Inv-loop μ-loop
+after-requires c κs = search needs
+
+loop-less : tie.Need-loop-less Inv-loop μ-loop
+loop-less c = search needs
+
+loop-again : tie.Need-loop-again Inv-loop μ-loop
+loop-again c = search needs
+
+same-length : tie.Need-same-length Inv-loop μ-loop
+same-length c = search needs
+
+returns : tie.Need-returns Inv-loop μ-loop
+returns c = search needs
+
+pub read-words-spec : {M : Type 1} → statement M
+read-words-spec =
+    tie.close
+    (tie.spec
+    Inv-loop
+    μ-loop
+    loop-holds
+    find-requires
+    sub-put
+    part-put-start
+    part-put-end
+    put-requires
+    after-requires
+    loop-less
+    loop-again
+    same-length
+    returns)

@@ -1,0 +1,66 @@
+// Runs the bench's vectors. Standard input has one to a line: the public function's name, what the vector shows, a colon, and the function's tables and
+// numbers. Each line's answer goes to standard output, so that a vector is a line here and a line there, and no expected value stands in the program.
+ghost use Prim.Native.Nat.{_≤_};
+ghost use lib.ListN.{length};
+use libc::STDIN_FILENO;
+
+mod calls;
+mod print;
+mod text;
+
+// Calls the function that a line names, if there is one.
+fn call(name: &[u8], body: &[u8]) -> bool {
+    if check::same(name, b"inspect") {
+        return calls::inspect(body);
+    }
+    if check::same(name, b"run") {
+        return calls::run(body);
+    }
+    false
+}
+
+// Whether the line was a vector. Its text before the colon is all of it where there is no colon.
+fn vector(line: &[u8], label: &[u8]) -> bool {
+    let colon = label.len();
+    if colon < line.len() {
+        let start = colon + 1;
+        return call(text::before(label, b' '), &line[start..]);
+    }
+    false
+}
+
+// A vector's line of output. Headings and empty lines have none.
+fn run_line(line: &[u8]) {
+    if line.len() == 0 {
+        return;
+    }
+    if line[0] == b'#' {
+        return;
+    }
+    let label = text::before(line, b':');
+    print::text(label);
+    print::text(b": ");
+    if !vector(line, label) {
+        print::text(b"not a vector");
+    }
+    print::text(b"\n");
+}
+
+fn run_lines(text: &[u8]) {
+    let mut start = 0;
+    while start < text.len() {
+        let end = bytes::scan::find(text, start, text.len(), b'\n');
+        run_line(&text[start..end]);
+        start = text::after(text, end);
+    }
+}
+
+fn main() {
+    let mut buffer = io::large_buffer();
+    let length = io::read_full(STDIN_FILENO, &mut buffer);
+    if length == buffer.len() {
+        print::text(b": input too long\n");
+        return;
+    }
+    run_lines(&buffer[..length]);
+}
