@@ -4,6 +4,7 @@ ghost use Prim.Native.Nat.{_≤_};
 ghost use mathlib.Core.Path.{_≡_};
 ghost use lib.ListN.{length};
 use crate::print;
+use crate::read;
 use crate::text;
 
 // The tables hold a little more than the most that is allowed, so that a vector can pass each limit.
@@ -21,9 +22,9 @@ const ANSWER_BYTES: usize = 4100;
 pub fn inspect(body: &[u8]) -> bool {
     let mut requests = [0i32; REQUEST_WORDS];
     let mut offsets = [0i32; OFFSETS];
-    let rows = text::read_table(body, 0, &mut requests);
-    let space = text::read_number(body, 1);
-    let proposal = text::read_table(body, 2, &mut offsets);
+    let rows = read::table(body, 0, &mut requests);
+    let space = read::number(body, 1);
+    let proposal = read::table(body, 2, &mut offsets);
     let good = (text::field_count(body) == 3) & (rows.good & (space.good & proposal.good));
     if !good {
         return false;
@@ -72,9 +73,9 @@ fn run_script(body: &[u8], requests: &[i32], space: u32, offsets: &[i32]) -> boo
     let mut accesses = [0i32; ACCESS_WORDS];
     let mut arena = lent_arena();
     let mut bytes = lent_bytes();
-    let script = text::read_table(body, 3, &mut accesses);
-    let held = text::read_length(body, 4, &arena);
-    let room = text::read_length(body, 5, &bytes);
+    let script = read::table(body, 3, &mut accesses);
+    let held = read::length_within(body, 4, &arena);
+    let room = read::length_within(body, 5, &bytes);
     let good = script.good & (held.good & room.good);
     if !good {
         return false;
@@ -97,9 +98,9 @@ fn run_script(body: &[u8], requests: &[i32], space: u32, offsets: &[i32]) -> boo
 pub fn run(body: &[u8]) -> bool {
     let mut requests = [0i32; REQUEST_WORDS];
     let mut offsets = [0i32; OFFSETS];
-    let rows = text::read_table(body, 0, &mut requests);
-    let space = text::read_number(body, 1);
-    let proposal = text::read_table(body, 2, &mut offsets);
+    let rows = read::table(body, 0, &mut requests);
+    let space = read::number(body, 1);
+    let proposal = read::table(body, 2, &mut offsets);
     let good = (text::field_count(body) == 6) & (rows.good & (space.good & proposal.good));
     if !good {
         return false;

@@ -5,7 +5,9 @@ ghost use lib.ListN.{length};
 use libc::STDIN_FILENO;
 
 mod calls;
+mod number;
 mod print;
+mod read;
 mod text;
 
 // Calls the function that a line names, if there is one.

@@ -1,4 +1,4 @@
--- `bench_vectors::text::below_zero` is safe and ends: −1 less a number below half fits.
+-- `bench_vectors::number::below_zero` is safe and ends: −1 less a number below half fits.
 use Prim.Native.Nat.{_-_, _<_, _^_}
 use native.Mathlib.Omega.{arith}
 use borrow.Author.Needs.{needs}
@@ -6,8 +6,8 @@ use lib.IntN.{pos}
 use mir.Facts.{toZ-pos}
 use mir.Syntax.{w32}
 use Rattle.words.proofs.Turned.{fits}
-use Rattle.bench_vectors.proofs.text.below_zero.Statement.{statement}
-use Rattle.bench_vectors.proofs.text.below_zero.Tie as tie
+use Rattle.bench_vectors.proofs.number.below_zero.Statement.{statement}
+use Rattle.bench_vectors.proofs.number.below_zero.Tie as tie
 
 returns : tie.Need-returns
 returns c = search needs

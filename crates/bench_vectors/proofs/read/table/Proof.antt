@@ -1,12 +1,12 @@
--- `bench_vectors::text::read_table` meets its contract.
+-- `bench_vectors::read::table` meets its contract.
 use Prim.Native.Nat.{_≤_}
 use mathlib.Core.Path.{sym}
 use native.Mathlib.Omega.{arith}
 use borrow.Author.Needs.{needs}
 use lib.ListN.{length}
 use lib.Seq.{length-take-le}
-use Rattle.bench_vectors.proofs.text.read_table.Statement.{statement}
-use Rattle.bench_vectors.proofs.text.read_table.Tie as tie
+use Rattle.bench_vectors.proofs.read.table.Statement.{statement}
+use Rattle.bench_vectors.proofs.read.table.Tie as tie
 
 field-requires : tie.Need-field-requires
 field-requires c κs = search needs
@@ -22,5 +22,5 @@ returns c =
     let h : c .before .read-words .result .count ≤ length (c .before .read-words .last .1 .0) = omega arith in
     (h, sym (length-take-le _ _ h))
 
-pub read-table-spec : {M : Type 1} → statement M
-read-table-spec = tie.close (tie.spec field-requires read-words-requires same-length returns)
+pub table-spec : {M : Type 1} → statement M
+table-spec = tie.close (tie.spec field-requires read-words-requires same-length returns)

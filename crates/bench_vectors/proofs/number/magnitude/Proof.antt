@@ -1,9 +1,9 @@
--- `bench_vectors::text::magnitude` is safe and ends.
+-- `bench_vectors::number::magnitude` is safe and ends.
 use Prim.Native.Nat.{_-_}
 use borrow.Author.Needs.{needs}
 use lib.ListN.{length}
-use Rattle.bench_vectors.proofs.text.magnitude.Statement.{statement}
-use Rattle.bench_vectors.proofs.text.magnitude.Tie as tie
+use Rattle.bench_vectors.proofs.number.magnitude.Statement.{statement}
+use Rattle.bench_vectors.proofs.number.magnitude.Tie as tie
 
 abbrev Inv-loop : tie.InvT-loop
 Inv-loop digits number₀ at₀ number at = Unit {0}

@@ -1,10 +1,10 @@
--- `bench_vectors::text::read_words` meets its contract: the words read stay within the table, which keeps its length.
+-- `bench_vectors::read::read_words` meets its contract: the words read stay within the table, which keeps its length.
 use Prim.Native.Nat.{_≤_, _-_}
 use mathlib.Core.Path.{_≡_}
 use borrow.Author.Needs.{needs}
 use lib.ListN.{length}
-use Rattle.bench_vectors.proofs.text.read_words.Statement.{statement}
-use Rattle.bench_vectors.proofs.text.read_words.Tie as tie
+use Rattle.bench_vectors.proofs.read.read_words.Statement.{statement}
+use Rattle.bench_vectors.proofs.read.read_words.Tie as tie
 
 abbrev Inv-loop : tie.InvT-loop
 Inv-loop text table₀ words₀ start₀ table words start = (words .count ≤ length table) × (length table ≡ length table₀)

@@ -1,10 +1,10 @@
--- `bench_vectors::text::fill` is safe and ends: the table keeps its length.
+-- `bench_vectors::read::fill` is safe and ends: the table keeps its length.
 use Prim.Native.Nat.{_-_}
 use mathlib.Core.Path.{_≡_}
 use borrow.Author.Needs.{needs}
 use lib.ListN.{length}
-use Rattle.bench_vectors.proofs.text.fill.Statement.{statement}
-use Rattle.bench_vectors.proofs.text.fill.Tie as tie
+use Rattle.bench_vectors.proofs.read.fill.Statement.{statement}
+use Rattle.bench_vectors.proofs.read.fill.Tie as tie
 
 abbrev Inv-loop : tie.InvT-loop
 Inv-loop table₀ start end number at₀ table at = length table ≡ length table₀
