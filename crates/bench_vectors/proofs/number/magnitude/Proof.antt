@@ -1,6 +1,6 @@
 -- `bench_vectors::number::magnitude` is safe and ends.
 use Prim.Native.Nat.{_-_}
-use borrow.Author.Needs.{needs}
+use native.Mathlib.Omega.{arith}
 use lib.ListN.{length}
 use Rattle.bench_vectors.proofs.number.magnitude.Statement.{statement}
 use Rattle.bench_vectors.proofs.number.magnitude.Tie as tie
@@ -12,28 +12,28 @@ abbrev μ-loop : tie.MeasureT-loop
 μ-loop digits number₀ at₀ number at = length digits - at
 
 returns : tie.Need-returns Inv-loop μ-loop
-returns c = search needs
+returns c = tt
 
 loop-holds : tie.Need-loop-holds Inv-loop μ-loop
-loop-holds c = search needs
+loop-holds c = tt
 
 shared-slice-read-with-digit : tie.Need-shared-slice-read-with-digit Inv-loop μ-loop
-shared-slice-read-with-digit c = search needs
+shared-slice-read-with-digit c = omega arith
 
 with-digit-requires : tie.Need-with-digit-requires Inv-loop μ-loop
-with-digit-requires c κs = search needs
+with-digit-requires c κs = tt
 
 add-at : tie.Need-add-at Inv-loop μ-loop
-add-at c = search needs
+add-at c = omega arith
 
 loop-less : tie.Need-loop-less Inv-loop μ-loop
-loop-less c = search needs
+loop-less c = omega arith
 
 loop-again : tie.Need-loop-again Inv-loop μ-loop
-loop-again c = search needs
+loop-again c = tt
 
 returns-2 : tie.Need-returns-2 Inv-loop μ-loop
-returns-2 c = search needs
+returns-2 c = tt
 
 pub magnitude-spec : {M : Type 1} → statement M
 magnitude-spec =

@@ -14,34 +14,34 @@ abbrev μ-loop : tie.MeasureT-loop
 μ-loop bytes words₀ at₀ words at = length bytes - at
 
 loop-holds : tie.Need-loop-holds Inv-loop μ-loop
-loop-holds c = search needs
+loop-holds c = omega arith
 
 shared-slice-read-words : tie.Need-shared-slice-read-words Inv-loop μ-loop
-shared-slice-read-words c = search needs
+shared-slice-read-words c = omega arith
 
 cast-words : tie.Need-cast-words Inv-loop μ-loop
 cast-words c = sfits-of (omega (arith, c .shared-slice-known .given (c .before .before .loop .at)))
 
 mul-t4 : tie.Need-mul-t4 Inv-loop μ-loop
-mul-t4 c = search needs
+mul-t4 c = omega arith
 
 slice-set-from-words : tie.Need-slice-set-from-words Inv-loop μ-loop
-slice-set-from-words c = search needs
+slice-set-from-words c = omega arith
 
 add-at : tie.Need-add-at Inv-loop μ-loop
-add-at c = search needs
+add-at c = omega arith
 
 loop-less : tie.Need-loop-less Inv-loop μ-loop
-loop-less c = search needs
+loop-less c = omega arith
 
 loop-again : tie.Need-loop-again Inv-loop μ-loop
 loop-again c = search needs
 
 same-length : tie.Need-same-length Inv-loop μ-loop
-same-length c = search needs
+same-length c = omega arith
 
 returns : tie.Need-returns Inv-loop μ-loop
-returns c = search needs
+returns c = tt
 
 pub widen-spec : {M : Type 1} → statement M
 widen-spec =

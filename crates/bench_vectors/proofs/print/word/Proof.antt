@@ -1,7 +1,6 @@
 -- `bench_vectors::print::word` is safe and ends: by the number's sign.
 use mathlib.Core.Path.{_≡_}
 use native.Mathlib.Omega.{arith}
-use borrow.Author.Needs.{needs}
 use lib.IntN.{pos, negsuc, _-ℤ_}
 use lib.Signed.{mag}
 use mir.Syntax.{w32}
@@ -28,19 +27,19 @@ cast-below : tie.Need-cast-below
 cast-below c = rw (under c) (tt, omega arith)
 
 slice-aggregate-text : tie.Need-slice-aggregate-text
-slice-aggregate-text c = search needs
+slice-aggregate-text c = omega arith
 
 text-requires : tie.Need-text-requires
-text-requires c κs = search needs
+text-requires c κs = tt
 
 add-natural : tie.Need-add-natural
 add-natural c = rw (under (c .before .before)) (omega arith)
 
 natural-requires : tie.Need-natural-requires
-natural-requires c κs = search needs
+natural-requires c κs = tt
 
 returns : tie.Need-returns
-returns c = search needs
+returns c = tt
 
 cast-natural : tie.Need-cast-natural
 cast-natural c =
@@ -48,10 +47,10 @@ cast-natural c =
     rw (held (c .before)) (natural .0, omega (arith, natural .1))
 
 natural-requires-2 : tie.Need-natural-requires-2
-natural-requires-2 c κs = search needs
+natural-requires-2 c κs = tt
 
 returns-2 : tie.Need-returns-2
-returns-2 c = search needs
+returns-2 c = tt
 
 pub word-spec : {M : Type 1} → statement M
 word-spec =

@@ -1,6 +1,6 @@
 -- `bench_vectors::print::words` is safe and ends: every turn passes the equal entries, of which there is one at least.
 use Prim.Native.Nat.{_≤_, _-_}
-use borrow.Author.Needs.{needs}
+use native.Mathlib.Omega.{arith}
 use lib.ListN.{length}
 use Rattle.bench_vectors.proofs.print.words.Statement.{statement}
 use Rattle.bench_vectors.proofs.print.words.Tie as tie
@@ -12,31 +12,31 @@ abbrev μ-loop : tie.MeasureT-loop
 μ-loop table start₀ start = length table - start
 
 loop-holds : tie.Need-loop-holds Inv-loop μ-loop
-loop-holds c = search needs
+loop-holds c = omega arith
 
 run-end-requires : tie.Need-run-end-requires Inv-loop μ-loop
-run-end-requires c κs = search needs
+run-end-requires c κs = omega arith
 
 sub-copies : tie.Need-sub-copies Inv-loop μ-loop
-sub-copies c = search needs
+sub-copies c = omega arith
 
 mul-copies : tie.Need-mul-copies Inv-loop μ-loop
-mul-copies c = search needs
+mul-copies c = omega arith
 
 shared-slice-copy-out-copies : tie.Need-shared-slice-copy-out-copies Inv-loop μ-loop
-shared-slice-copy-out-copies c = search needs
+shared-slice-copy-out-copies c = omega arith
 
 copies-requires : tie.Need-copies-requires Inv-loop μ-loop
-copies-requires c κs = search needs
+copies-requires c κs = tt
 
 loop-less : tie.Need-loop-less Inv-loop μ-loop
-loop-less c = search needs
+loop-less c = omega arith
 
 loop-again : tie.Need-loop-again Inv-loop μ-loop
-loop-again c = search needs
+loop-again c = omega arith
 
 returns : tie.Need-returns Inv-loop μ-loop
-returns c = search needs
+returns c = tt
 
 pub words-spec : {M : Type 1} → statement M
 words-spec =

@@ -1,7 +1,7 @@
 -- `bench_vectors::read::read_words` meets its contract: the words read stay within the table, which keeps its length.
 use Prim.Native.Nat.{_≤_, _-_}
 use mathlib.Core.Path.{_≡_}
-use borrow.Author.Needs.{needs}
+use native.Mathlib.Omega.{arith}
 use lib.ListN.{length}
 use Rattle.bench_vectors.proofs.read.read_words.Statement.{statement}
 use Rattle.bench_vectors.proofs.read.read_words.Tie as tie
@@ -13,37 +13,37 @@ abbrev μ-loop : tie.MeasureT-loop
 μ-loop text table₀ words₀ start₀ table words start = length text - start
 
 loop-holds : tie.Need-loop-holds Inv-loop μ-loop
-loop-holds c = search needs
+loop-holds c = omega arith
 
 find-requires : tie.Need-find-requires Inv-loop μ-loop
-find-requires c κs = search needs
+find-requires c κs = omega arith
 
 sub-put : tie.Need-sub-put Inv-loop μ-loop
-sub-put c = search needs
+sub-put c = omega arith
 
 part-put-start : tie.Need-part-put-start Inv-loop μ-loop
-part-put-start c = search needs
+part-put-start c = omega arith
 
 part-put-end : tie.Need-part-put-end Inv-loop μ-loop
-part-put-end c = search needs
+part-put-end c = omega arith
 
 put-requires : tie.Need-put-requires Inv-loop μ-loop
-put-requires c κs = search needs
+put-requires c κs = omega arith
 
 after-requires : tie.Need-after-requires Inv-loop μ-loop
-after-requires c κs = search needs
+after-requires c κs = tt
 
 loop-less : tie.Need-loop-less Inv-loop μ-loop
-loop-less c = search needs
+loop-less c = omega arith
 
 loop-again : tie.Need-loop-again Inv-loop μ-loop
-loop-again c = search needs
+loop-again c = omega arith
 
 same-length : tie.Need-same-length Inv-loop μ-loop
-same-length c = search needs
+same-length c = omega arith
 
 returns : tie.Need-returns Inv-loop μ-loop
-returns c = search needs
+returns c = omega arith
 
 pub read-words-spec : {M : Type 1} → statement M
 read-words-spec =

@@ -1,6 +1,6 @@
 -- `bench_vectors::text::field_start` meets its contract. The measure is the number of fields left to pass.
 use Prim.Native.Nat.{_≤_, _-_}
-use borrow.Author.Needs.{needs}
+use native.Mathlib.Omega.{arith}
 use lib.ListN.{length}
 use Rattle.bench_vectors.proofs.text.field_start.Statement.{statement}
 use Rattle.bench_vectors.proofs.text.field_start.Tie as tie
@@ -12,25 +12,25 @@ abbrev μ-loop : tie.MeasureT-loop
 μ-loop body field start₀ left₀ start left = left
 
 loop-holds : tie.Need-loop-holds Inv-loop μ-loop
-loop-holds c = search needs
+loop-holds c = omega arith
 
 find-requires : tie.Need-find-requires Inv-loop μ-loop
-find-requires c κs = search needs
+find-requires c κs = omega arith
 
 after-requires : tie.Need-after-requires Inv-loop μ-loop
-after-requires c κs = search needs
+after-requires c κs = tt
 
 sub-left : tie.Need-sub-left Inv-loop μ-loop
-sub-left c = search needs
+sub-left c = omega arith
 
 loop-less : tie.Need-loop-less Inv-loop μ-loop
-loop-less c = search needs
+loop-less c = omega arith
 
 loop-again : tie.Need-loop-again Inv-loop μ-loop
-loop-again c = search needs
+loop-again c = omega arith
 
 returns : tie.Need-returns Inv-loop μ-loop
-returns c = search needs
+returns c = omega arith
 
 pub field-start-spec : {M : Type 1} → statement M
 field-start-spec =
