@@ -10,23 +10,20 @@ mod print;
 mod read;
 mod text;
 
-// Calls the function that a line names, if there is one.
-fn call(name: &[u8], body: &[u8]) -> bool {
+// Calls the function that the line names, and says whether the line was a vector. Its label is all of it where there is no colon.
+fn call(line: &[u8], label: &[u8]) -> bool {
+    let colon = label.len();
+    if line.len() <= colon {
+        return false;
+    }
+    let start = colon + 1;
+    let body = &line[start..];
+    let name = text::before(label, b' ');
     if check::same(name, b"inspect") {
         return calls::inspect(body);
     }
     if check::same(name, b"run") {
         return calls::run(body);
-    }
-    false
-}
-
-// Whether the line was a vector. Its text before the colon is all of it where there is no colon.
-fn vector(line: &[u8], label: &[u8]) -> bool {
-    let colon = label.len();
-    if colon < line.len() {
-        let start = colon + 1;
-        return call(text::before(label, b' '), &line[start..]);
     }
     false
 }
@@ -42,7 +39,7 @@ fn run_line(line: &[u8]) {
     let label = text::before(line, b':');
     print::text(label);
     print::text(b": ");
-    if !vector(line, label) {
+    if !call(line, label) {
         print::text(b"not a vector");
     }
     print::text(b"\n");

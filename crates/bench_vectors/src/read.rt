@@ -71,28 +71,22 @@ fn put(entry: &[u8], words: Words, table: &mut [i32]) -> Words
     Words { count: end, good }
 }
 
-// Reads numbers with spaces between.
-fn read_words(text: &[u8], table: &mut [i32]) -> Words
-    ensures { λ r. ⌜ r .count ≤ length (now (table .exit)) ⌝ }
+// Reads a field into the start of a table. The second clause follows from the first: with it `&table[..count]` needs no proof.
+pub fn table(body: &[u8], field_number: usize, table: &mut [i32]) -> Words
+    ensures { λ r. ⌜ (r .count ≤ length (now (table .exit))) × (r .count ≡ length (take (r .count) (now (table .exit)))) ⌝ }
 {
+    let field = text::field(body, field_number);
     let mut words = Words {
         count: 0,
         good: true,
     };
     let mut start = 0;
-    while start < text.len() {
-        let end = bytes::scan::find(text, start, text.len(), b' ');
-        words = put(&text[start..end], words, table);
-        start = text::after(text, end);
+    while start < field.len() {
+        let end = bytes::scan::find(field, start, field.len(), b' ');
+        words = put(&field[start..end], words, table);
+        start = text::after(field, end);
     }
     words
-}
-
-// Reads a field into the start of a table. The second clause follows from the first: with it `&table[..count]` needs no proof.
-pub fn table(body: &[u8], field_number: usize, table: &mut [i32]) -> Words
-    ensures { λ r. ⌜ (r .count ≤ length (now (table .exit))) × (r .count ≡ length (take (r .count) (now (table .exit)))) ⌝ }
-{
-    read_words(text::field(body, field_number), table)
 }
 
 // Reads a field that is a single number, with one space before it at most.
