@@ -19,7 +19,7 @@ const ARENA_BYTES: usize = 1024;
 const ANSWER_BYTES: usize = 4100;
 
 // Requests; space; offsets.
-pub fn inspect(body: &[u8]) -> bool {
+pub(crate) fn inspect(body: &[u8]) -> bool {
     let mut requests = [0i32; REQUEST_WORDS];
     let mut offsets = [0i32; OFFSETS];
     let rows = read::table(body, 0, &mut requests);
@@ -95,7 +95,7 @@ fn run_script(body: &[u8], requests: &[i32], space: u32, offsets: &[i32]) -> boo
 }
 
 // Requests; space; offsets; and the script's fields.
-pub fn run(body: &[u8]) -> bool {
+pub(crate) fn run(body: &[u8]) -> bool {
     let mut requests = [0i32; REQUEST_WORDS];
     let mut offsets = [0i32; OFFSETS];
     let rows = read::table(body, 0, &mut requests);

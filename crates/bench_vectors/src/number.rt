@@ -24,7 +24,7 @@ fn with_digit(number: u64, byte: u8) -> u64 {
 }
 
 // The number that the digits spell.
-pub fn magnitude(digits: &[u8]) -> u64 {
+pub(crate) fn magnitude(digits: &[u8]) -> u64 {
     if digits.len() == 0 {
         return TOO_LARGE;
     }
@@ -73,7 +73,7 @@ fn below_zero(magnitude: u64) -> Word {
 }
 
 // The signed number that the text spells.
-pub fn signed(text: &[u8]) -> Word {
+pub(crate) fn signed(text: &[u8]) -> Word {
     if text.len() == 0 {
         return above_zero(TOO_LARGE);
     }

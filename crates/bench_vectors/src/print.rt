@@ -5,7 +5,7 @@ ghost use lib.ListN.{length};
 use answer::Answer;
 use libc::STDOUT_FILENO;
 
-pub fn text(text: &[u8]) {
+pub(crate) fn text(text: &[u8]) {
     io::write_all(STDOUT_FILENO, text);
 }
 
@@ -25,7 +25,7 @@ fn word(number: i32) {
 }
 
 // The answer's number, its two places and its need.
-pub fn answer(answer: Answer) {
+pub(crate) fn answer(answer: Answer) {
     natural(answer.number as u64);
     text(b" ");
     natural(answer.a as u64);
@@ -63,7 +63,7 @@ fn copies(count: usize, number: i32) {
 }
 
 // Every entry of a table, with a space before each, and equal neighbours put together.
-pub fn words(table: &[i32]) {
+pub(crate) fn words(table: &[i32]) {
     let mut start = 0;
     while start < table.len() {
         let end = run_end(table, start);

@@ -72,7 +72,7 @@ fn put(entry: &[u8], words: Words, table: &mut [i32]) -> Words
 }
 
 // Reads a field into the start of a table. The second clause follows from the first: with it `&table[..count]` needs no proof.
-pub fn table(body: &[u8], field_number: usize, table: &mut [i32]) -> Words
+pub(crate) fn table(body: &[u8], field_number: usize, table: &mut [i32]) -> Words
     ensures { λ r. ⌜ (r .count ≤ length (now (table .exit))) × (r .count ≡ length (take (r .count) (now (table .exit)))) ⌝ }
 {
     let field = text::field(body, field_number);
@@ -90,7 +90,7 @@ pub fn table(body: &[u8], field_number: usize, table: &mut [i32]) -> Words
 }
 
 // Reads a field that is a single number, with one space before it at most.
-pub fn number(body: &[u8], field_number: usize) -> Unsigned {
+pub(crate) fn number(body: &[u8], field_number: usize) -> Unsigned {
     let digits = number::magnitude(text::without_space(text::field(body, field_number)));
     if number::TOO_LARGE <= digits {
         return Unsigned {
@@ -105,7 +105,7 @@ pub fn number(body: &[u8], field_number: usize) -> Unsigned {
 }
 
 // Reads a field that is a length, of so many bytes of a table that they are there. It takes the table for the same reason.
-pub fn length_within(body: &[u8], field_number: usize, table: &[u8]) -> Words
+pub(crate) fn length_within(body: &[u8], field_number: usize, table: &[u8]) -> Words
     ensures { λ r. ⌜ (r .count ≤ length (now (table .entry))) × (r .count ≡ length (take (r .count) (now (table .entry)))) ⌝ }
 {
     let read = number(body, field_number);

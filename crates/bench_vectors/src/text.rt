@@ -4,13 +4,13 @@ ghost use mathlib.Core.Path.{_≡_};
 ghost use lib.ListN.{length};
 
 // The text before the first such byte, else all of it.
-pub fn before(text: &[u8], byte: u8) -> &[u8] {
+pub(crate) fn before(text: &[u8], byte: u8) -> &[u8] {
     let end = bytes::scan::find(text, 0, text.len(), byte);
     &text[..end]
 }
 
 // The place after a separator, and no further than the end.
-pub fn after(text: &[u8], separator: usize) -> usize
+pub(crate) fn after(text: &[u8], separator: usize) -> usize
     ensures { λ r. ⌜ r ≡ min (separator + 1) (length (now (text .entry))) ⌝ }
 {
     if separator < text.len() {
@@ -20,7 +20,7 @@ pub fn after(text: &[u8], separator: usize) -> usize
 }
 
 // How many fields there are.
-pub fn field_count(body: &[u8]) -> usize {
+pub(crate) fn field_count(body: &[u8]) -> usize {
     let mut start = 0;
     let mut count = 1;
     while start < body.len() {
@@ -46,14 +46,14 @@ fn field_start(body: &[u8], field: usize) -> usize
 }
 
 // The text of a field.
-pub fn field(body: &[u8], number: usize) -> &[u8] {
+pub(crate) fn field(body: &[u8], number: usize) -> &[u8] {
     let start = field_start(body, number);
     let end = bytes::scan::find(body, start, body.len(), b';');
     &body[start..end]
 }
 
 // The text without the space that it may start with.
-pub fn without_space(text: &[u8]) -> &[u8] {
+pub(crate) fn without_space(text: &[u8]) -> &[u8] {
     if text.len() == 0 {
         return text;
     }
