@@ -1,0 +1,84 @@
+// A single number, spelled by digits and, where it may be negative, a sign before them.
+
+// What stands for a number that cannot be read: it is above every range, so that a test of the range refuses it too.
+pub const TOO_LARGE: u64 = 4294967296;
+
+// A signed number, and whether it was one.
+pub struct Word {
+    pub value: i32,
+    pub good: bool,
+}
+
+// The number with one digit more. Past the range it does not grow, so that no sum wraps.
+fn with_digit(number: u64, byte: u8) -> u64 {
+    if TOO_LARGE <= number {
+        return TOO_LARGE;
+    }
+    if byte < b'0' {
+        return TOO_LARGE;
+    }
+    if b'9' < byte {
+        return TOO_LARGE;
+    }
+    number * 10 + (byte - b'0') as u64
+}
+
+// The number that the digits spell.
+pub(crate) fn magnitude(digits: &[u8]) -> u64 {
+    if digits.len() == 0 {
+        return TOO_LARGE;
+    }
+    let mut number = 0;
+    let mut at = 0;
+    while at < digits.len() {
+        number = with_digit(number, digits[at]);
+        at += 1;
+    }
+    number
+}
+
+// The number of so many above 0.
+fn above_zero(magnitude: u64) -> Word {
+    if 2147483647 < magnitude {
+        return Word {
+            value: 0,
+            good: false,
+        };
+    }
+    Word {
+        value: magnitude as i32,
+        good: true,
+    }
+}
+
+// The number of so many below 0. It is made from -1 down, since the least has no counterpart above 0.
+fn below_zero(magnitude: u64) -> Word {
+    if 2147483648 < magnitude {
+        return Word {
+            value: 0,
+            good: false,
+        };
+    }
+    if magnitude == 0 {
+        return Word {
+            value: 0,
+            good: true,
+        };
+    }
+    let further = (magnitude - 1) as i32;
+    Word {
+        value: -1 - further,
+        good: true,
+    }
+}
+
+// The signed number that the text spells.
+pub(crate) fn signed(text: &[u8]) -> Word {
+    if text.len() == 0 {
+        return above_zero(TOO_LARGE);
+    }
+    if text[0] == b'-' {
+        return below_zero(magnitude(&text[1..]));
+    }
+    above_zero(magnitude(text))
+}
