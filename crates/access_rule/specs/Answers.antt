@@ -21,7 +21,7 @@ use Rattle.request_table.specs.Table.{rows, wholeRows}
 use Rattle.inspection_rule.specs.Inspect.{acceptedAnswer, inspectOf}
 use Rattle.access_rule.specs.Accesses.{greatestAccesses, count, good, badAccess}
 use Rattle.access_rule.specs.Run.{arenaAfter, answerByte}
-use Rattle.access_rule.specs.Script.{lengthCauses, inspectorCauses, ownCausesOf, scriptCauses, lengthsOf, touchesOf, scriptOf, finalArena, finalBytes}
+use Rattle.access_rule.specs.Script.{lengthCauses, inspectorCauses, lastCauses, scriptCauses, lengthsOf, touchesOf, scriptOf, finalArena, finalBytes}
 
 -- What lets the tables pass the checks 1 to 3.
 pub record Sized (t o s : List ℤ) (room : ℕ) : Type 0 where
@@ -51,13 +51,13 @@ module _ (t : List ℤ) (space : ℕ) (s : List ℤ) (held : ℕ) where
   unfolding touchesOf holdsBelow
   touches-passed h l = rw (le-ltb _ _ h, firstCause, le-ltb _ _ l, firstCause)
 
-  touch-refuses : AllRefuse numberOf (ownCausesOf t space s held)
+  touch-refuses : AllRefuse numberOf (lastCauses t space s held)
   touch-refuses = (omega arith, (omega arith, tt))
 
   -- Both pass: the answer is done, with all zeros.
   pub touches-done : touchesOf t space s held .number ≡ 0 → doneWith 0 ≡ touchesOf t space s held
   unfolding touchesOf
-  touches-done e = sym (follows (ownCausesOf t space s held) (doneWith 0) (passed numberOf (ownCausesOf t space s held) (doneWith 0) touch-refuses e .0))
+  touches-done e = sym (follows (lastCauses t space s held) (doneWith 0) (passed numberOf (lastCauses t space s held) (doneWith 0) touch-refuses e .0))
 
 -- ---- the checks 1 to 3
 
@@ -113,20 +113,20 @@ module _ (t o s : List ℤ) (room : ℕ) where
     unfolding inspectOf
     inspected z = follows-more (shapeCauses t (length o)) (inspectorCauses g t space o) (acceptedAnswer g t o) (shape-none z)
 
-    past-lengths : Sized t o s room → firstCause (inspectorCauses g t space o ++ ownCausesOf t space s held) (doneWith 0) ≡ scriptOf g t space o s held room
+    past-lengths : Sized t o s room → firstCause (inspectorCauses g t space o ++ lastCauses t space s held) (doneWith 0) ≡ scriptOf g t space o s held room
     unfolding scriptOf
-    past-lengths z = sym (follows-more (lengthCauses t o s room) (inspectorCauses g t space o ++ ownCausesOf t space s held) (doneWith 0) (none-of z))
+    past-lengths z = sym (follows-more (lengthCauses t o s room) (inspectorCauses g t space o ++ lastCauses t space s held) (doneWith 0) (none-of z))
 
     -- A refusal of the checks 1 to 3 is the script's;
     pub lengths-stand : (lengthsOf t o s room .number ≡ 0 → ⊥) → lengthsOf t o s room ≡ scriptOf g t space o s held room
     unfolding lengthsOf scriptOf
-    lengths-stand h = refused-stands numberOf (lengthCauses t o s room) (inspectorCauses g t space o ++ ownCausesOf t space s held) (doneWith 0) (doneWith 0) refl h
+    lengths-stand h = refused-stands numberOf (lengthCauses t o s room) (inspectorCauses g t space o ++ lastCauses t space s held) (doneWith 0) (doneWith 0) refl h
 
     -- past them, a refusal of the inspector is;
     pub inspection-stands : Sized t o s room → (inspectOf g t space o .number ≡ 0 → ⊥) → inspectOf g t space o ≡ scriptOf g t space o s held room
     inspection-stands z h =
         inspected z
-        ∙ refused-stands numberOf (inspectorCauses g t space o) (ownCausesOf t space s held) (acceptedAnswer g t o) (doneWith 0) refl (λ e. h (ap numberOf (inspected z) ∙ e))
+        ∙ refused-stands numberOf (inspectorCauses g t space o) (lastCauses t space s held) (acceptedAnswer g t o) (doneWith 0) refl (λ e. h (ap numberOf (inspected z) ∙ e))
         ∙ past-lengths z
 
     -- past both, the arena and the touches decide.
@@ -134,7 +134,7 @@ module _ (t o s : List ℤ) (room : ℕ) where
     unfolding touchesOf
     touches-decide z e =
         let n = passed numberOf (inspectorCauses g t space o) (acceptedAnswer g t o) inspector-refuses (sym (ap numberOf (inspected z)) ∙ e) .0 in
-        sym (follows-more (inspectorCauses g t space o) (ownCausesOf t space s held) (doneWith 0) n) ∙ past-lengths z
+        sym (follows-more (inspectorCauses g t space o) (lastCauses t space s held) (doneWith 0) n) ∙ past-lengths z
 
     -- ---- done
 

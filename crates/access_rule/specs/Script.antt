@@ -40,12 +40,12 @@ abbrev pub touchCauses : List ℤ → List ℤ → List (Cause Answer)
 touchCauses t s = (holdsBelow (badAccess t s) (count s) ⇒ A.refusedAt A.badAccess (firstIn (badAccess t s) 0 (count s))) ∷ []
 
 -- 12, 11.
-abbrev pub ownCausesOf : List ℤ → ℕ → List ℤ → ℕ → List (Cause Answer)
-ownCausesOf t space s held = arenaCauses space held ++ touchCauses t s
+abbrev pub lastCauses : List ℤ → ℕ → List ℤ → ℕ → List (Cause Answer)
+lastCauses t space s held = arenaCauses space held ++ touchCauses t s
 
 -- 1, 2, 3; 4, 5, 8, 9, 7, 10; 12; 11.
 abbrev pub scriptCauses : ℕ → List ℤ → ℕ → List ℤ → List ℤ → ℕ → ℕ → List (Cause Answer)
-scriptCauses g t space o s held room = lengthCauses t o s room ++ (inspectorCauses g t space o ++ ownCausesOf t space s held)
+scriptCauses g t space o s held room = lengthCauses t o s room ++ (inspectorCauses g t space o ++ lastCauses t space s held)
 
 -- The answer of the checks 1 to 3 alone.
 unfoldable pub lengthsOf : List ℤ → List ℤ → List ℤ → ℕ → Answer
@@ -53,7 +53,7 @@ lengthsOf t o s room = firstCause (lengthCauses t o s room) (A.doneWith 0)
 
 -- The answer of the checks 12 and 11 alone.
 unfoldable pub touchesOf : List ℤ → ℕ → List ℤ → ℕ → Answer
-touchesOf t space s held = firstCause (ownCausesOf t space s held) (A.doneWith 0)
+touchesOf t space s held = firstCause (lastCauses t space s held) (A.doneWith 0)
 
 -- The script's answer: the first cause that holds, else done, with all zeros.
 unfoldable pub scriptOf : ℕ → List ℤ → ℕ → List ℤ → List ℤ → ℕ → ℕ → Answer
