@@ -1,3 +1,1 @@
-pub mod Ahead
 pub mod Signed
-pub mod Turned

@@ -1,9 +1,5 @@
-// Signed 32-bit words at the edge: the only functions that hold one. All else works with natural numbers.
+// Signed 32-bit words at the edge: with `word_bytes`, the only functions that hold one. All else works with natural numbers.
 // Each takes the slice and the place, and a place outside the slice reads as 0, as getD has it, so that any call is allowed.
-
-// The same words as bytes, for tables that come and go as bytes.
-pub mod bytes;
-
 ghost use mathlib.Core.Path.{_≡_};
 ghost use lib.IntN.{pos};
 ghost use lib.Signed.{ltZ};

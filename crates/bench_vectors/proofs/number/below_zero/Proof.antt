@@ -5,7 +5,7 @@ use borrow.Author.Needs.{needs}
 use lib.IntN.{pos}
 use mir.Facts.{toZ-pos}
 use mir.Syntax.{w32}
-use Rattle.words.proofs.Turned.{fits}
+use Rattle.word_bytes.proofs.Turned.{fits}
 use Rattle.bench_vectors.proofs.number.below_zero.Statement.{statement}
 use Rattle.bench_vectors.proofs.number.below_zero.Tie as tie
 

@@ -6,7 +6,7 @@ use lib.Signed.{mag}
 use mir.Syntax.{w32}
 use mir.Val.{ofZ, toZ}
 use Rattle.words.proofs.Signed.{read, castable}
-use Rattle.words.proofs.Turned.{fits, below}
+use Rattle.word_bytes.proofs.Turned.{fits, below}
 use Rattle.bench_vectors.proofs.print.word.Statement.{statement}
 use Rattle.bench_vectors.proofs.print.word.Tie as tie
 

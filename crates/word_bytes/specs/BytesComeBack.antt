@@ -1,0 +1,108 @@
+-- What is put into bytes is what is read from them: bits and signed numbers are the same thing twice, a word that was put comes back, the
+-- words beside it stay, and a word put back where it was read changes nothing.
+use Prim.Native.Nat.{ℕ, zero, suc, _+_, _*_, _-_, _/_, _%_, _^_, _≤_, _<_}
+use mathlib.Core.Bool.{Bool, true, false, cond}
+use mathlib.Core.List.{List}
+use mathlib.Core.Logic.{_⊎_, ⊎-elim}
+use mathlib.Core.Path.{_≡_, refl, ap, _∙_}
+use native.Mathlib.Omega.{arith}
+use borrow.Author.Tests.{lt-ltb, le-ltb}
+use lib.Dec.{ltb}
+use lib.IntN.{ℤ, pos, negsuc}
+use lib.ListN.{length, getD, set, length-set}
+use lib.Seq.{getD-set-same, getD-set-other, set-getD}
+use lib.Signed.{mag}
+use Rattle.word_bytes.specs.Bytes.{littleEndian, withLittleEndian, signedWord, unsignedWord, wordOf, withWord}
+
+-- A signed number that 32 bits hold comes back from its bits.
+pub signed-of-unsigned : (z : ℤ) → mag z < 2 ^ 31 → signedWord (unsignedWord z) ≡ z
+unfolding signedWord unsignedWord
+signed-of-unsigned (pos n) h = rw (lt-ltb n 2147483648 (omega arith))
+signed-of-unsigned (negsuc n) h =
+    rw (le-ltb (4294967295 - n) 2147483648 (omega arith)) (ap negsuc (omega arith))
+
+-- 32 bits come back from the signed number that they are.
+pub unsigned-of-signed : (n : ℕ) → n < 2 ^ 32 → unsignedWord (signedWord n) ≡ n
+unfolding signedWord unsignedWord
+unsigned-of-signed n h = go (ltb n 2147483648) refl
+  where
+    go : (b : Bool) → ltb n 2147483648 ≡ b → unsignedWord (cond b (pos n) (negsuc (4294967295 - n))) ≡ n
+    go true e = refl
+    go false e = omega arith
+
+outside : (k : ℕ) (bytes : List ℕ) (at i n : ℕ) → ((j : ℕ) → j < k → i ≡ at + j → ⊥)
+    → getD (withLittleEndian bytes at k n) i 0 ≡ getD bytes i 0
+unfolding withLittleEndian
+outside zero bytes at i n apart = refl
+outside (suc k) bytes at i n apart =
+    outside k (set bytes at (n % 256)) (at + 1) i (n / 256) (λ j h e. apart (j + 1) (omega arith) (omega arith))
+    ∙ getD-set-other bytes at i (n % 256) 0 (λ e. apart 0 (omega arith) (omega arith))
+
+just-put : (k : ℕ) (bytes : List ℕ) (at n : ℕ) → at + k ≤ length bytes → n < 256 ^ k
+    → littleEndian (withLittleEndian bytes at k n) at k ≡ n
+unfolding littleEndian withLittleEndian
+just-put zero bytes at n room h = omega arith
+just-put (suc k) bytes at n room h =
+    let stays = outside k (set bytes at (n % 256)) (at + 1) at (n / 256) (λ j h e. omega arith) in
+    let low = getD-set-same bytes at (n % 256) 0 (omega arith) in
+    let rest = just-put k (set bytes at (n % 256)) (at + 1) (n / 256) (simp length-set (omega arith)) (omega arith) in
+    rw (stays, low, rest) (omega arith)
+
+elsewhere : (m k : ℕ) (bytes : List ℕ) (at other n : ℕ) → ((i j : ℕ) → i < m → j < k → other + i ≡ at + j → ⊥)
+    → littleEndian (withLittleEndian bytes at k n) other m ≡ littleEndian bytes other m
+unfolding littleEndian
+elsewhere zero k bytes at other n apart = refl
+elsewhere (suc m) k bytes at other n apart =
+    let here = outside k bytes at other n (λ j h e. apart 0 j (omega arith) h (omega arith)) in
+    let rest = elsewhere m k bytes at (other + 1) n (λ i j h g e. apart (i + 1) j (omega arith) g (omega arith)) in
+    cc
+
+-- A number of k bytes is below 256 to the k.
+pub number-fits : (k : ℕ) (bytes : List ℕ) (at : ℕ) → ((i : ℕ) → getD bytes i 0 < 256) → littleEndian bytes at k < 256 ^ k
+unfolding littleEndian
+number-fits zero bytes at small = omega arith
+number-fits (suc k) bytes at small = omega (arith, small at, number-fits k bytes (at + 1) small)
+
+put-back : (k : ℕ) (bytes : List ℕ) (at : ℕ) → ((i : ℕ) → getD bytes i 0 < 256)
+    → withLittleEndian bytes at k (littleEndian bytes at k) ≡ bytes
+unfolding littleEndian withLittleEndian
+put-back zero bytes at small = refl
+put-back (suc k) bytes at small =
+    let low : (getD bytes at 0 + 256 * littleEndian bytes (at + 1) k) % 256 ≡ getD bytes at 0 = omega (arith, small at) in
+    let high : (getD bytes at 0 + 256 * littleEndian bytes (at + 1) k) / 256 ≡ littleEndian bytes (at + 1) k = omega (arith, small at) in
+    rw (low, high, set-getD bytes at 0) (put-back k bytes (at + 1) small)
+
+kept : (k : ℕ) (bytes : List ℕ) (at n : ℕ) → length (withLittleEndian bytes at k n) ≡ length bytes
+unfolding withLittleEndian
+kept zero bytes at n = refl
+kept (suc k) bytes at n = kept k (set bytes at (n % 256)) (at + 1) (n / 256) ∙ length-set bytes at (n % 256)
+
+unsigned-fits : (z : ℤ) → mag z < 2 ^ 31 → unsignedWord z < 2 ^ 32
+unfolding unsignedWord
+unsigned-fits (pos n) h = omega arith
+unsigned-fits (negsuc n) h = omega arith
+
+-- The word just put, where its four bytes lie in the list, is the one read there.
+pub word-just-put : (bytes : List ℕ) (at : ℕ) (z : ℤ) → mag z < 2 ^ 31 → at + 4 ≤ length bytes → wordOf (withWord bytes at z) at ≡ z
+unfolding wordOf withWord
+word-just-put bytes at z h room =
+    ap signedWord (just-put 4 bytes at (unsignedWord z) room (unsigned-fits z h)) ∙ signed-of-unsigned z h
+
+-- A word four bytes or more away is read as before.
+pub word-elsewhere : (bytes : List ℕ) (at other : ℕ) (z : ℤ) → (at + 4 ≤ other) ⊎ (other + 4 ≤ at)
+    → wordOf (withWord bytes at z) other ≡ wordOf bytes other
+unfolding wordOf withWord
+word-elsewhere bytes at other z apart =
+    ap signedWord
+    (elsewhere 4 4 bytes at other (unsignedWord z) (λ i j h g e. ⊎-elim (λ w. omega arith) (λ w. omega arith) apart))
+
+-- The word read at a place, put back there, leaves the bytes as they are.
+pub word-put-back : (bytes : List ℕ) (at : ℕ) → ((i : ℕ) → getD bytes i 0 < 256) → withWord bytes at (wordOf bytes at) ≡ bytes
+unfolding wordOf withWord
+word-put-back bytes at small =
+    rw (unsigned-of-signed (littleEndian bytes at 4) (number-fits 4 bytes at small)) (put-back 4 bytes at small)
+
+-- Putting a word changes no length.
+pub length-kept : (bytes : List ℕ) (at : ℕ) (z : ℤ) → length (withWord bytes at z) ≡ length bytes
+unfolding withWord
+length-kept bytes at z = kept 4 bytes at (unsignedWord z)
