@@ -18,9 +18,9 @@ fn fixed_collide(grid: u32, table: &[i32], a: Row, b: Row) -> bool
     let second = requests::request_at(table, b);
     let first_offset = first.offset;
     let second_offset = second.offset;
-    let met = requests::collide(
-        requests::buffer_at(grid, first, first_offset),
-        requests::buffer_at(grid, second, second_offset),
+    let met = buffers::collide(
+        buffers::buffer_at(grid, first, first_offset),
+        buffers::buffer_at(grid, second, second_offset),
     );
     (first.fixed & second.fixed) & met
 }

@@ -39,7 +39,7 @@ pub(crate) fn need_of(grid: u32, table: &[i32], offsets: [Offset; GREATEST_ROWS]
         let request = requests::request_at(table, row);
         let at = row.0;
         let offset = offsets[at];
-        need = raised(need, requests::buffer_at(grid, request, offset));
+        need = raised(need, buffers::buffer_at(grid, request, offset));
         row = Row(at + 1);
     }
     need

@@ -48,7 +48,7 @@ fn lowest_moved(table: &[i32], offsets: &[i32]) -> Row
 fn is_off_grid(grid: u32, offsets: &[i32], row: Row) -> bool
     ensures { λ r. ⌜ r ≡ offGrid grid (now (offsets .entry)) (row .0) ⌝ }
 {
-    words::is_negative(offsets, row.0) | !requests::on_grid(grid, proposed_at(offsets, row))
+    words::is_negative(offsets, row.0) | !buffers::on_grid(grid, proposed_at(offsets, row))
 }
 
 // The lowest of so many rows with such an offset, else their number.
@@ -69,7 +69,7 @@ fn lowest_off_grid(grid: u32, offsets: &[i32], count: usize) -> Row
 fn buffer_of(grid: u32, table: &[i32], offsets: &[i32], row: Row) -> Buffer
     ensures { λ r. ⌜ r ≡ bufferAt grid (now (table .entry)) (row .0) (proposed (now (offsets .entry)) (row .0)) ⌝ }
 {
-    requests::buffer_at(
+    buffers::buffer_at(
         grid,
         requests::request_at(table, row),
         proposed_at(offsets, row),
@@ -81,7 +81,7 @@ fn end_of(grid: u32, table: &[i32], offsets: &[i32], row: Row) -> u64
     ensures { λ r. ⌜ r ≡ endOrZero (bufferAt grid (now (table .entry)) (row .0) (proposed (now (offsets .entry)) (row .0))) ⌝ }
 {
     let request = requests::request_at(table, row);
-    let length = requests::occupied_size(grid, request.size);
+    let length = buffers::occupied_size(grid, request.size);
     let start = words::natural(offsets, row.0);
     if 0 < length {
         return start as u64 + length;
@@ -126,7 +126,7 @@ fn judge_pairs(grid: u32, table: &[i32], offsets: &[i32], need: u64) -> Answer
         let first = buffer_of(grid, table, offsets, a);
         let mut b = Row(a.0 + 1);
         while b.0 < n {
-            if requests::collide(first, buffer_of(grid, table, offsets, b)) {
+            if buffers::collide(first, buffer_of(grid, table, offsets, b)) {
                 answer = Answer::refused_pair(Answer::ROWS_COLLIDE, a.0 as u32, b.0 as u32);
                 break 'scan;
             }

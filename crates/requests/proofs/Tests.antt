@@ -1,4 +1,4 @@
--- What the code works out of a row or two buffers is what the definitions say, over plain values: a wrong test or field then fails here by what differs.
+-- What the code works out of a row is what the definitions say, over plain values: a wrong test or field then fails here by what differs.
 use Prim.Native.Nat.{ℕ}
 use mathlib.Core.Bool.{Bool, not, _&&_, _||_}
 use mathlib.Core.List.{List}
@@ -6,12 +6,9 @@ use mathlib.Core.Path.{_≡_, ap}
 use lib.Dec.{leb}
 use lib.IntN.{ℤ}
 use Rattle.words.specs.Words.{natural, isMinusOne}
-use Rattle.request_table.specs.Buffers.{occupied, buffer, nonempty, liveTogether, endsAfter, shareByte, collides}
 use Rattle.request_table.specs.Limits.{greatestSpace}
 use Rattle.request_table.specs.Table.{word, request, onGrid, goodSize, goodLife, good}
-use Rattle.request_table.specs.declared.Buffer.{Buffer}
 use Rattle.request_table.specs.declared.Request.{Request}
-use Rattle.units.specs.declared.Offset.{Offset}
 
 -- A row, from its words.
 pub row-is : (t : List ℤ) (r : ℕ) {size first last offset : ℕ} {minus : Bool}
@@ -20,19 +17,8 @@ pub row-is : (t : List ℤ) (r : ℕ) {size first last offset : ℕ} {minus : Bo
 unfolding request
 row-is t r s f l m o = λ i. record { size = s i; first = record { 0 = f i }; last = record { 0 = l i }; fixed = not (m i); offset = record { 0 = o i } }
 
--- A row's buffer at an offset.
-pub buffer-is : (g : ℕ) (x : Request) (o : Offset) {length : ℕ} → length ≡ occupied g (x .size)
-    → _≡_ {A = Buffer} (record { first = x .first; last = x .last; offset = o; length = length }) (buffer g x o)
-buffer-is g x o e = λ i. record { first = x .first; last = x .last; offset = o; length = e i }
-
 -- The test of a good row.
 pub good-is : (g : ℕ) (x : Request) {even : Bool} → even ≡ onGrid g (x .offset .0)
     → goodSize x && (goodLife x && (not (x .fixed) || (even && leb (x .offset .0) greatestSpace))) ≡ good g x
 unfolding good
 good-is g x e = ap (λ (b : Bool). goodSize x && (goodLife x && (not (x .fixed) || (b && leb (x .offset .0) greatestSpace)))) e
-
--- The test of two buffers that collide.
-pub collide-is : (a b : Buffer) {together after before : Bool} → together ≡ liveTogether a b → after ≡ endsAfter a b → before ≡ endsAfter b a
-    → (nonempty a && nonempty b) && (together && (after && before)) ≡ collides a b
-unfolding collides shareByte
-collide-is a b p q r = λ i. (nonempty a && nonempty b) && (p i && (q i && r i))

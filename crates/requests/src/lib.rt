@@ -1,16 +1,14 @@
-// Reading the request table (document 01, "Requests and the greedy rule"): its rows, whether a row is good, whether two rows collide; and the checks
-// 1 to 5, with which every planner and the inspector begin. All is total: any table, any row, any grid.
+// Reading the request table (document 01, "Requests and the greedy rule"): its rows, whether a row is good; and the checks 1 to 5, with which every
+// planner and the inspector begin. All is total: any table, any row, any grid.
 ghost use Prim.Native.Nat.{_+_, _<_, _≤_};
 ghost use mathlib.Core.Path.{_≡_};
 ghost use lib.ListN.{length};
 ghost use Rattle.bounded.specs.First.{firstIn};
 ghost use Rattle.words.specs.Words.{wordAt};
 ghost use Rattle.request_table.specs.Limits.{greatestRows};
-ghost use Rattle.request_table.specs.Table.{rows as rowsOf, word as wordOf, request, onGrid, good, badRow};
-ghost use Rattle.request_table.specs.Buffers.{occupied, buffer, liveTogether, endsAfter, collides};
+ghost use Rattle.request_table.specs.Table.{rows as rowsOf, word as wordOf, request, good, badRow};
 ghost use Rattle.request_table.specs.Checks.{shapeOf, contentOf, checkOf};
 use answer::Answer;
-use request_table::Buffer;
 use request_table::Request;
 use units::Moment;
 use units::Offset;
@@ -57,33 +55,14 @@ pub fn request_at(table: &[i32], row: Row) -> Request
     }
 }
 
-// The occupied size: the size rounded up to a multiple of the grid. No number is a multiple of a grid of 0 but 0.
-pub fn occupied_size(grid: u32, size: u32) -> u64
-    ensures { λ r. ⌜ r ≡ occupied grid size ⌝ }
-{
-    if grid == 0 {
-        return 0;
-    }
-    (size as u64 + (grid as u64 - 1)) / grid as u64 * grid as u64
-}
-
-// Whether the offset is a multiple of the grid.
-pub fn on_grid(grid: u32, offset: Offset) -> bool
-    ensures { λ r. ⌜ r ≡ onGrid grid (offset .0) ⌝ }
-{
-    if grid == 0 {
-        return offset.0 == 0;
-    }
-    offset.0 % grid as u64 == 0
-}
-
 // A good row: size, life and offset are in their ranges.
 fn is_good(grid: u32, request: Request) -> bool
     ensures { λ r. ⌜ r ≡ good grid request ⌝ }
 {
     let size = request.size <= GREATEST_SPACE;
     let life = (request.first.0 <= request.last.0) & (request.last.0 <= LAST_MOMENT);
-    let placed = on_grid(grid, request.offset) & (request.offset.0 <= GREATEST_SPACE as u64);
+    let placed = buffers::on_grid(grid, request.offset)
+        & (request.offset.0 <= GREATEST_SPACE as u64);
     size & (life & (!request.fixed | placed))
 }
 
@@ -100,46 +79,6 @@ fn lowest_bad_row(grid: u32, table: &[i32]) -> Row
         row = Row(row.0 + 1);
     }
     row
-}
-
-// The row's buffer at an offset.
-pub fn buffer_at(grid: u32, request: Request, offset: Offset) -> Buffer
-    ensures { λ r. ⌜ r ≡ buffer grid request offset ⌝ }
-{
-    let length = occupied_size(grid, request.size);
-    let first = request.first;
-    let last = request.last;
-    Buffer {
-        first,
-        last,
-        offset,
-        length,
-    }
-}
-
-// Both ends of a life count.
-pub fn live_together(a: Buffer, b: Buffer) -> bool
-    ensures { λ r. ⌜ r ≡ liveTogether a b ⌝ }
-{
-    (a.first.0 <= b.last.0) & (b.first.0 <= a.last.0)
-}
-
-// Whether a ends after b starts. It subtracts where there is something to subtract, so that no end is ever worked out and none can overflow.
-fn ends_after(a: Buffer, b: Buffer) -> bool
-    ensures { λ r. ⌜ r ≡ endsAfter a b ⌝ }
-{
-    if b.offset.0 < a.offset.0 {
-        return true;
-    }
-    b.offset.0 - a.offset.0 < a.length
-}
-
-// Two buffers collide: both are nonempty, they live together and share a byte.
-pub fn collide(a: Buffer, b: Buffer) -> bool
-    ensures { λ r. ⌜ r ≡ collides a b ⌝ }
-{
-    let nonempty = (0 < a.length) & (0 < b.length);
-    nonempty & (live_together(a, b) & (ends_after(a, b) & ends_after(b, a)))
 }
 
 // The checks 1 to 3: the tables' lengths.

@@ -1,8 +1,8 @@
--- `requests::collide` meets its contract.
+-- `buffers::collide` meets its contract.
 use borrow.Author.Needs.{needs}
-use Rattle.requests.proofs.Tests.{collide-is}
-use Rattle.requests.proofs.collide.Statement.{statement}
-use Rattle.requests.proofs.collide.Tie as tie
+use Rattle.buffers.proofs.Tests.{collide-is}
+use Rattle.buffers.proofs.collide.Statement.{statement}
+use Rattle.buffers.proofs.collide.Tie as tie
 
 live-together-requires : tie.Need-live-together-requires
 live-together-requires c κs = search needs

@@ -1,8 +1,8 @@
--- `requests::buffer_at` meets its contract.
+-- `buffers::buffer_at` meets its contract.
 use borrow.Author.Needs.{needs}
-use Rattle.requests.proofs.Tests.{buffer-is}
-use Rattle.requests.proofs.buffer_at.Statement.{statement}
-use Rattle.requests.proofs.buffer_at.Tie as tie
+use Rattle.buffers.proofs.Tests.{buffer-is}
+use Rattle.buffers.proofs.buffer_at.Statement.{statement}
+use Rattle.buffers.proofs.buffer_at.Tie as tie
 
 occupied-size-requires : tie.Need-occupied-size-requires
 occupied-size-requires c κs = search needs

@@ -1,12 +1,12 @@
--- `requests::occupied_size` meets its contract.
+-- `buffers::occupied_size` meets its contract.
 use Prim.Native.Nat.{_+_, _-_}
 use mathlib.Core.Path.{refl}
 use native.Mathlib.Nat.{div-mul-le-self, mul-zero}
 use native.Mathlib.Omega.{arith}
 use borrow.Author.Needs.{needs}
 use Rattle.request_table.specs.Buffers.{occupied}
-use Rattle.requests.proofs.occupied_size.Statement.{statement}
-use Rattle.requests.proofs.occupied_size.Tie as tie
+use Rattle.buffers.proofs.occupied_size.Statement.{statement}
+use Rattle.buffers.proofs.occupied_size.Tie as tie
 
 returns : tie.Need-returns
 unfolding occupied

@@ -1,11 +1,11 @@
--- `requests::ends_after` meets its contract.
+-- `buffers::ends_after` meets its contract.
 use Prim.Native.Nat.{_+_, _-_}
 use mathlib.Core.Path.{sym}
 use native.Mathlib.Omega.{arith}
 use borrow.Author.Tests.{ltb-true, lt-ltb}
 use Rattle.bounded.specs.Boolean.{same-test}
-use Rattle.requests.proofs.ends_after.Statement.{statement}
-use Rattle.requests.proofs.ends_after.Tie as tie
+use Rattle.buffers.proofs.ends_after.Statement.{statement}
+use Rattle.buffers.proofs.ends_after.Tie as tie
 
 returns : tie.Need-returns
 returns c = let a = c .before .before .before .args .a in let b = c .before .before .before .args .b in sym (lt-ltb (b .offset .0) (a .offset .0 + a .length) (omega arith))

@@ -1,8 +1,8 @@
--- `requests::on_grid` meets its contract.
+-- `buffers::on_grid` meets its contract.
 use native.Mathlib.Nat.{mod-zero}
 use borrow.Author.Needs.{needs}
-use Rattle.requests.proofs.on_grid.Statement.{statement}
-use Rattle.requests.proofs.on_grid.Tie as tie
+use Rattle.buffers.proofs.on_grid.Statement.{statement}
+use Rattle.buffers.proofs.on_grid.Tie as tie
 
 returns : tie.Need-returns
 returns c = rw (c .before .if1 .taken, mod-zero)
