@@ -1,6 +1,6 @@
 // The plan inspector: judges a plan that anyone may have proposed, one offset for each row of the request table (document 01, "The desk's order of
 // checks"). All is read where it lies; nothing is written.
-ghost use Prim.Native.Nat.{_≤_, max};
+ghost use Prim.Native.Nat.{_≤_, _<_, _^_, max};
 ghost use mathlib.Core.Path.{_≡_};
 ghost use Rattle.bounded.specs.First.{firstIn};
 ghost use Rattle.request_table.specs.Buffers.{bufferAt, endOrZero};
@@ -12,9 +12,11 @@ use request_table::Buffer;
 use units::Offset;
 use units::Row;
 
-// The offset that is proposed for a row. A negative one stands above every limit, and past the proposal it is 0.
+// The offset that is proposed for a row. A negative one stands above every limit, and past the proposal it is 0. It is a number of 32 bits, so that no
+// end of a row is too large for 64.
 pub fn proposed_at(offsets: &[i32], row: Row) -> Offset
-    ensures { λ r. ⌜ r .0 ≡ proposed (now (offsets .entry)) (row .0) ⌝ }
+    ensures offset { λ r. ⌜ r .0 ≡ proposed (now (offsets .entry)) (row .0) ⌝ }
+    ensures small { λ r. ⌜ r .0 < 2 ^ 32 ⌝ }
 {
     let place = words::natural(offsets, row.0) as u64;
     Offset(place)
@@ -82,9 +84,9 @@ fn end_of(grid: u32, table: &[i32], offsets: &[i32], row: Row) -> u64
 {
     let request = requests::request_at(table, row);
     let length = buffers::occupied_size(grid, request.size);
-    let start = words::natural(offsets, row.0);
+    let start = proposed_at(offsets, row);
     if 0 < length {
-        return start as u64 + length;
+        return start.0 + length;
     }
     0
 }

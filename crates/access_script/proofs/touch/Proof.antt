@@ -15,7 +15,7 @@ use Rattle.access_script.proofs.touch.Tie as tie
 place : (c : tie.After-proposed-at)
     → c .proposed-at .result .0 + c .before .before .before .args .access .index
     ≡ byteOf (now (c .before .before .before .args .offsets)) (c .before .before .before .args .access)
-place c = byte-is (now (c .before .before .before .args .offsets)) (c .before .before .before .args .access) (c .proposed-at .ensures)
+place c = byte-is (now (c .before .before .before .args .offsets)) (c .before .before .before .args .access) (c .proposed-at .ensures .0)
 
 proposed-at-requires : tie.Need-proposed-at-requires
 proposed-at-requires c κs = search needs

@@ -18,7 +18,7 @@ buffer-at-requires c κs = search needs
 returns : tie.Need-returns
 returns c =
     let u = c .before .before .before .args in
-    c .buffer-at .ensures ∙ ap (λ (x : Request). buffer (u .grid) x (c .before .proposed-at .result)) (c .before .before .request-at .ensures) ∙ ap (bufferAt (u .grid) _ (u .row .0)) (c .before .proposed-at .ensures)
+    c .buffer-at .ensures ∙ ap (λ (x : Request). buffer (u .grid) x (c .before .proposed-at .result)) (c .before .before .request-at .ensures) ∙ ap (bufferAt (u .grid) _ (u .row .0)) (c .before .proposed-at .ensures .0)
 
 pub buffer-of-spec : {M : Type 1} → statement M
 buffer-of-spec =

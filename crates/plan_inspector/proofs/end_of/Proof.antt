@@ -20,26 +20,25 @@ request-at-requires c κs = search needs
 occupied-size-requires : tie.Need-occupied-size-requires
 occupied-size-requires c κs = search needs
 
-natural-requires : tie.Need-natural-requires
-natural-requires c κs = search needs
-
-cast-result : tie.Need-cast-result
-cast-result c = search needs
+proposed-at-requires : tie.Need-proposed-at-requires
+proposed-at-requires c κs = search needs
 
 add-result : tie.Need-add-result
-add-result c = omega (arith, c .before .before .occupied-size .ensures, occupied-most (c .before .before .before .before .args .grid) (c .before .before .before .request-at .result .size))
+add-result c =
+    let past = c .before .before in
+    omega (arith, past .proposed-at .ensures .1, past .before .occupied-size .ensures, occupied-most (past .before .before .before .args .grid) (past .before .before .request-at .result .size))
 
 -- the row's buffer, and that the code's length is its length
-abbrev Proposed : tie.After-natural → Buffer
+abbrev Proposed : tie.After-proposed-at → Buffer
 Proposed c = let u = c .before .before .before .args in bufferAt (u .grid) (now (u .table)) (u .row .0) (proposed (now (u .offsets)) (u .row .0))
 
-length-is : (c : tie.After-natural) → c .before .occupied-size .result ≡ Proposed c .length
+length-is : (c : tie.After-proposed-at) → c .before .occupied-size .result ≡ Proposed c .length
 length-is c = c .before .occupied-size .ensures ∙ ap (λ (x : Request). occupied (c .before .before .before .args .grid) (x .size)) (c .before .before .request-at .ensures)
 
 returns : tie.Need-returns
 returns c =
-    let b = c .before in
-    ap₂ (λ (x y : ℕ). x + y) (b .natural .ensures) (length-is b) ∙ sym (end-counts (Proposed b) (subst (λ (x : ℕ). 0 < x) (length-is b) (c .if1 .taken)))
+    let b = c .before .before in
+    ap₂ (λ (x y : ℕ). x + y) (b .proposed-at .ensures .0) (length-is b) ∙ sym (end-counts (Proposed b) (subst (λ (x : ℕ). 0 < x) (length-is b) (c .before .if1 .taken)))
 
 returns-2 : tie.Need-returns-2
 returns-2 c =
@@ -52,8 +51,7 @@ end-of-spec =
     (tie.spec
     request-at-requires
     occupied-size-requires
-    natural-requires
-    cast-result
+    proposed-at-requires
     add-result
     returns
     returns-2)

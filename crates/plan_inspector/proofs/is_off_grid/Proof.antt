@@ -20,7 +20,7 @@ returns : tie.Need-returns
 unfolding offGrid
 returns c =
     ap₂ (λ (negative on : Bool). negative || not on) (c .before .before .is-negative .ensures)
-    (c .on-grid .ensures ∙ ap (onGrid (c .before .before .before .args .grid)) (c .before .proposed-at .ensures))
+    (c .on-grid .ensures ∙ ap (onGrid (c .before .before .before .args .grid)) (c .before .proposed-at .ensures .0))
 
 pub is-off-grid-spec : {M : Type 1} → statement M
 is-off-grid-spec =

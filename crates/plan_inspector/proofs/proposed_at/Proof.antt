@@ -10,7 +10,7 @@ cast-place : tie.Need-cast-place
 cast-place c = search needs
 
 returns : tie.Need-returns
-returns c = c .natural .ensures
+returns c = (c .natural .ensures, search needs)
 
 pub proposed-at-spec : {M : Type 1} → statement M
 proposed-at-spec = tie.close (tie.spec natural-requires cast-place returns)
