@@ -54,7 +54,7 @@ unfoldable pub reaches : List ℤ → Access → Bool
 reaches t a =
     ltb (a .row .0) (rows t) && (alive (request t (a .row .0)) (a .moment) && (ltb (a .index) (request t (a .row .0) .size) && allowed a))
 
--- "A touch is good if its moment is at least the one before", and all that.
+-- "A touch is good if its moment is at least the one before", and it reaches a byte so.
 unfoldable pub good : List ℤ → List ℤ → ℕ → Bool
 good t s k = leb (momentBefore s k) (access s k .moment .0) && reaches t (access s k)
 
