@@ -10,7 +10,7 @@ use lib.Dec.{ltb}
 use lib.IntN.{ℤ}
 use lib.ListN.{length}
 use Rattle.answer.specs.Answer.{refused, refusedAt, doneWith, arenaTooShort, badAccess as badAccessNumber}
-use Rattle.bounded.specs.Boolean.{contrary}
+use Rattle.bounded.specs.Boolean.{neither, neither-holds}
 use Rattle.bounded.specs.Causes.{NoneHolds, AllRefuse, firstCause, follows, follows-more, passed, refused-stands}
 use Rattle.bounded.specs.First.{firstIn, holdsBelow, none-holds}
 use Rattle.bounded.specs.Replaced.{replaced}
@@ -60,14 +60,6 @@ module _ (t : List ℤ) (space : ℕ) (s : List ℤ) (held : ℕ) where
   touches-done e = sym (follows (lastCauses t space s held) (doneWith 0) (passed numberOf (lastCauses t space s held) (doneWith 0) touch-refuses e .0))
 
 -- ---- the checks 1 to 3
-
-neither : (x y : Bool) → x || y ≡ false → (x ≡ false) × (y ≡ false)
-neither true y e = contrary refl e
-neither false y e = (refl, e)
-
-neither-holds : (x y : Bool) → x ≡ false → y ≡ false → x || y ≡ false
-neither-holds true y p q = p
-neither-holds false y p q = q
 
 module _ (t o s : List ℤ) (room : ℕ) where
   length-refuses : AllRefuse numberOf (lengthCauses t o s room)

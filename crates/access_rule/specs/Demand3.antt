@@ -21,7 +21,7 @@ use Rattle.bounded.specs.First.{holdsBelow, none-found, none-holds}
 use Rattle.bounded.specs.Lowest.{Lowest}
 use Rattle.bounded.specs.Replaced.{replaced-at}
 use Rattle.words.specs.Words.{natural, isMinusOne}
-use Rattle.words.specs.WordOrders.{within, natural-of}
+use Rattle.words.specs.WordOrders.{within, natural-of, natural-word, one-word}
 use Rattle.request_table.specs.Buffers.{bufferAt, end}
 use Rattle.request_table.specs.CheckLaws.{numberOf}
 use Rattle.request_table.specs.GoodRows.{GoodRow}
@@ -116,14 +116,6 @@ write-says t s k e f =
     ⊎-out : (isMinusOne (word s k 3) ≡ true) ⊎ (leb (natural (word s k 3)) 255 ≡ true) → natural (word s k 3) ≤ 255
     ⊎-out (inl q) = contrary q f
     ⊎-out (inr q) = leb-true _ _ q
-
--- two natural words that read as one number are one word
-one-word : (x y : ℤ) → x ≡ pos (natural x) → y ≡ pos (natural y) → natural x ≡ natural y → x ≡ y
-one-word x y p q e = p ∙ ap pos e ∙ sym q
-
-natural-word : {x : ℤ} {n : ℕ} → x ≡ pos n → x ≡ pos (natural x)
-unfolding natural
-natural-word e = e ∙ ap pos (sym (ap natural e))
 
 -- The byte on which a touch falls is the one that the run works on.
 pub falls : (o s : List ℤ) (k : ℕ) → byteOf o (access s k) ≡ fallsOn o s k

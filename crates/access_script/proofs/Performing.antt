@@ -2,12 +2,11 @@
 use Prim.Native.Nat.{ℕ, _+_, _<_, _≤_}
 use mathlib.Core.Bool.{true, false}
 use mathlib.Core.List.{List}
-use mathlib.Core.Path.{_≡_, refl, sym, _∙_, ap, ap₂, subst}
+use mathlib.Core.Path.{_≡_, sym, _∙_, ap, ap₂, subst}
 use native.Mathlib.Omega.{arith}
 use borrow.Author.Tests.{leb-true}
 use lib.IntN.{ℤ}
 use lib.ListN.{length, set}
-use Rattle.bounded.specs.Boolean.{contrary}
 use Rattle.bounded.specs.Replaced.{replaced, replaced-none, replaced-more, replaced-length}
 use Rattle.inspection_rule.specs.Inspect.{proposed}
 use Rattle.access_rule.specs.Accesses.{count, access, allowed}

@@ -36,6 +36,16 @@ pub either : (x y : Bool) → x || y ≡ true → (x ≡ true) ⊎ (y ≡ true)
 either true y e = inl refl
 either false y e = inr e
 
+-- A disjunction that fails has two halves that fail,
+pub neither : (x y : Bool) → x || y ≡ false → (x ≡ false) × (y ≡ false)
+neither true y e = contrary refl e
+neither false y e = (refl, e)
+
+-- and the other way.
+pub neither-holds : (x y : Bool) → x ≡ false → y ≡ false → x || y ≡ false
+neither-holds true y p q = p
+neither-holds false y p q = q
+
 -- Two tests of which each implies the other are equal.
 pub same-test : (x y : Bool) → (x ≡ true → y ≡ true) → (y ≡ true → x ≡ true) → x ≡ y
 same-test true y f g = sym (f refl)

@@ -7,6 +7,7 @@ use native.Mathlib.Omega.{arith}
 use borrow.Author.Tests.{lt-ltb, le-ltb}
 use lib.IntN.{ℤ}
 use lib.ListN.{length}
+use Rattle.answer.specs.declared.Answer.{Answer}
 use Rattle.answer.specs.Answer.{doneWith, refusedAt, refusedPair, refusedNeed, needExceedsSpace, fixedRowMoved, badOffset, rowsCollide}
 use Rattle.bounded.specs.Causes.{NoneHolds, AllRefuse, firstCause, follows, follows-more, passed, refused-stands}
 use Rattle.bounded.specs.First.{firstIn, holdsBelow}
@@ -14,7 +15,11 @@ use Rattle.bounded.specs.Pair.{pairBelow, pairFirst, pairSecond}
 use Rattle.request_table.specs.CheckLaws.{Checked, numberOf, none-refuses}
 use Rattle.request_table.specs.Checks.{tableCauses, checkOf}
 use Rattle.request_table.specs.Table.{rows}
-use Rattle.inspection_rule.specs.Inspect.{moved, offGrid, proposedNeed, proposedCollide, movedCauses, gridCauses, needCauses, pairCauses, offsetCauses, planCauses, ownCauses, acceptedAnswer, pairOf, placedOf, proposalOf, inspectOf}
+use Rattle.inspection_rule.specs.Inspect.{moved, offGrid, proposedNeed, proposedCollide, movedCauses, gridCauses, needCauses, pairCauses, offsetCauses, planCauses, ownCauses, acceptedAnswer, pairOf, proposalOf, inspectOf}
+
+-- The answer of the checks 7 and 10 alone: a step between the laws, which no contract cites.
+unfoldable pub placedOf : ℕ → List ℤ → ℕ → List ℤ → Answer
+placedOf g t space o = firstCause (planCauses g t space o) (acceptedAnswer g t o)
 
 module _ (g : ℕ) (t : List ℤ) (space : ℕ) (o : List ℤ) where
   none-moved : rows t ≤ firstIn (moved t o) 0 (rows t) → NoneHolds (movedCauses t o)

@@ -18,7 +18,7 @@ use Rattle.bounded.specs.Causes.{NoneHolds, AllRefuse, follows, passed}
 use Rattle.bounded.specs.First.{none-holds, none-found}
 use Rattle.bounded.specs.Pair.{no-pair, none-paired}
 use Rattle.words.specs.Words.{wordAt, natural, isMinusOne}
-use Rattle.words.specs.WordOrders.{within, minus-one-of}
+use Rattle.words.specs.WordOrders.{within, one-word, minus-one-of}
 use Rattle.request_table.specs.Buffers.{occupied, bufferAt, need}
 use Rattle.request_table.specs.CheckLaws.{Checked, numberOf, checked}
 use Rattle.request_table.specs.Checks.{tableCauses, checkOf}
@@ -67,11 +67,6 @@ fixed-of t r f = go (isMinusOne (word t r 3)) refl
     go true e = absurd (f (minus-one-of (word t r 3) e))
     go false e = refl
 
--- two words that read as one number within the limits are one word
-same-word : (x y : ℤ) → natural x ≡ natural y → natural y ≤ greatestSpace → x ≡ y
-same-word x y e l =
-    within x greatestSpace (omega arith) (omega arith) .is ∙ ap pos e ∙ sym (within y greatestSpace (omega arith) l .is)
-
 -- The offset of a fixed row is what its word reads as.
 pub own-offset : (t : List ℤ) (r : ℕ) → fixedOffset t r ≡ natural (word t r 3)
 unfolding request
@@ -82,7 +77,9 @@ module _ (g : ℕ) (t o : List ℤ) (r : ℕ) where
   unfolding moved
   unmoved-says e l f =
       let x : eqb (proposed o r) (fixedOffset t r) ≡ true = not-false _ (rw (fixed-of t r f) at e) in
-      same-word (wordAt o r) (word t r 3) (eqb-true _ _ x ∙ own-offset t r) (omega (arith, own-offset t r))
+      let same : proposed o r ≡ natural (word t r 3) = eqb-true _ _ x ∙ own-offset t r in
+      let small : natural (word t r 3) ≤ greatestSpace = omega (arith, own-offset t r) in
+      one-word (wordAt o r) (word t r 3) (within (wordAt o r) greatestSpace (omega arith) (omega arith) .is) (within (word t r 3) greatestSpace (omega arith) small .is) same
 
   pub unmoved-of : ((word t r 3 ≡ negsuc 0 → ⊥) → wordAt o r ≡ word t r 3) → moved t o r ≡ false
   unfolding moved

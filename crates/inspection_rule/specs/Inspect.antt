@@ -80,10 +80,6 @@ acceptedAnswer g t o = A.doneWith (proposedNeed g t o)
 unfoldable pub pairOf : ℕ → List ℤ → List ℤ → Answer
 pairOf g t o = firstCause (pairCauses g t o) (acceptedAnswer g t o)
 
--- The answer of the checks 7 and 10 alone.
-unfoldable pub placedOf : ℕ → List ℤ → ℕ → List ℤ → Answer
-placedOf g t space o = firstCause (planCauses g t space o) (acceptedAnswer g t o)
-
 -- The answer past the checks 1 to 5.
 unfoldable pub proposalOf : ℕ → List ℤ → ℕ → List ℤ → Answer
 proposalOf g t space o = firstCause (ownCauses g t space o) (acceptedAnswer g t o)

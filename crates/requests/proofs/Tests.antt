@@ -2,12 +2,12 @@
 use Prim.Native.Nat.{ℕ}
 use mathlib.Core.Bool.{Bool, not, _&&_, _||_}
 use mathlib.Core.List.{List}
-use mathlib.Core.Path.{_≡_, ap}
+use mathlib.Core.Path.{_≡_, sym, _∙_, ap}
 use lib.Dec.{leb}
 use lib.IntN.{ℤ}
 use Rattle.words.specs.Words.{natural, isMinusOne}
 use Rattle.request_table.specs.Limits.{greatestSpace}
-use Rattle.request_table.specs.Table.{word, request, onGrid, goodSize, goodLife, good}
+use Rattle.request_table.specs.Table.{word, request, onGrid, goodSize, goodLife, good, badRow}
 use Rattle.request_table.specs.declared.Request.{Request}
 
 -- A row, from its words.
@@ -22,3 +22,7 @@ pub good-is : (g : ℕ) (x : Request) {even : Bool} → even ≡ onGrid g (x .of
     → goodSize x && (goodLife x && (not (x .fixed) || (even && leb (x .offset .0) greatestSpace))) ≡ good g x
 unfolding good
 good-is g x e = ap (λ (b : Bool). goodSize x && (goodLife x && (not (x .fixed) || (b && leb (x .offset .0) greatestSpace)))) e
+
+-- The test of a bad row, on the row that was read.
+pub bad-is : (g : ℕ) (t : List ℤ) (r : ℕ) {x : Request} {passes : Bool} → x ≡ request t r → passes ≡ good g x → badRow g t r ≡ not passes
+bad-is g t r p q = ap (λ (y : Request). not (good g y)) (sym p) ∙ ap not (sym q)

@@ -1,8 +1,8 @@
 -- What the tests on a signed word say, by its sign. A signed local holds its bits, so a need speaks of `toZ w32 (ofZ w32 x)`, which `read` turns
 -- into x; `h : mag x < 2 ^ 31` is what reading an element of a `&[i32]` gives.
-use Prim.Native.Nat.{ℕ, suc, _-_, _<_, _^_}
+use Prim.Native.Nat.{suc, _-_, _<_, _^_}
 use mathlib.Core.Bool.{Bool, true, false, true≢false}
-use mathlib.Core.Path.{_≡_, refl, sym}
+use mathlib.Core.Path.{_≡_, refl}
 use native.Mathlib.Omega.{arith}
 use borrow.Author.Needs.{sfits-of}
 use borrow.Author.Tests.{eq-eqb, ne-eqb, eqb-true, eqb-false, ltb-true}

@@ -1,7 +1,7 @@
 -- Signed words and the natural numbers that they read as: what a limit on the one says of the other.
 use Prim.Native.Nat.{ℕ, _<_, _≤_}
 use mathlib.Core.Bool.{true}
-use mathlib.Core.Path.{_≡_, refl, sym, ap, subst}
+use mathlib.Core.Path.{_≡_, refl, sym, _∙_, ap, subst}
 use native.Mathlib.Omega.{arith}
 use borrow.Author.Tests.{le-leb, lt-ltb, eqb-true}
 use lib.Dec.{T, leb→le, ltb→lt}
@@ -53,3 +53,12 @@ pub minus-one-of : (z : ℤ) → isMinusOne z ≡ true → z ≡ negsuc 0
 unfolding isMinusOne
 minus-one-of (pos n) e = absurd (let w : _≡_ {A = ℕ} 0 1 = cc in omega arith)
 minus-one-of (negsuc n) e = ap negsuc (eqb-true n 0 e)
+
+-- A word that is some natural number is the one that it reads as.
+pub natural-word : {x : ℤ} {n : ℕ} → x ≡ pos n → x ≡ pos (natural x)
+unfolding natural
+natural-word e = e ∙ ap pos (sym (ap natural e))
+
+-- Two such words that read as one number are one word.
+pub one-word : (x y : ℤ) → x ≡ pos (natural x) → y ≡ pos (natural y) → natural x ≡ natural y → x ≡ y
+one-word x y p q e = p ∙ ap pos e ∙ sym q
