@@ -1,14 +1,13 @@
 -- A touch script: the raw list of its signed words, four a touch: moment, request row, index, value (document 01, "The desk's order of checks").
 -- The document's touch is an access here. All is a total function of the script and the touch's number. A negative word reads as a number above every
 -- limit (`words`), so a test of an upper limit also refuses it; `GoodScripts` says the rule again in signed numbers and proves that it is the same.
-use Prim.Native.Nat.{ℕ, zero, suc, _+_, _*_, _/_}
+use Prim.Native.Nat.{ℕ, zero, suc}
 use mathlib.Core.Bool.{Bool, not, _&&_, _||_}
 use mathlib.Core.List.{List}
 use lib.Dec.{leb, ltb}
 use lib.IntN.{ℤ}
-use lib.ListN.{length}
-use Rattle.words.specs.Words.{wordAt, natural, isMinusOne}
-use Rattle.request_table.specs.Table.{rows, request}
+use Rattle.words.specs.Words.{natural, isMinusOne}
+use Rattle.request_table.specs.Table.{rows, word, request}
 use Rattle.request_table.specs.declared.Request.{Request}
 use Rattle.units.specs.declared.Moment.{Moment}
 use Rattle.access_rule.specs.declared.Access.{Access}
@@ -17,13 +16,9 @@ use Rattle.access_rule.specs.declared.Access.{Access}
 abbrev pub greatestAccesses : ℕ
 greatestAccesses = 4096
 
--- How many whole touches the script has.
+-- How many whole touches the script has. A touch is four words, as a request row is.
 abbrev pub count : List ℤ → ℕ
-count s = length s / 4
-
--- The word in a column of a touch.
-abbrev pub word : List ℤ → ℕ → ℕ → ℤ
-word s k column = wordAt s (k * 4 + column)
+count s = rows s
 
 -- A touch, as the code has it: "Value −1 reads".
 unfoldable pub access : List ℤ → ℕ → Access

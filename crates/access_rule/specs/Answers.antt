@@ -1,7 +1,7 @@
 -- The script's answer as the code comes to it: a refusal of the checks 1 to 3 stands; past them a refusal of the inspector stands; past both the arena and
 -- the touches decide. And what a done answer says.
 use Prim.Native.Nat.{ℕ, _<_, _≤_, _%_}
-use mathlib.Core.Bool.{Bool, true, false, not, _||_}
+use mathlib.Core.Bool.{true, not}
 use mathlib.Core.List.{List, _++_}
 use mathlib.Core.Path.{_≡_, refl, sym, _∙_, ap}
 use native.Mathlib.Omega.{arith}

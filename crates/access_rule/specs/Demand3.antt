@@ -26,10 +26,10 @@ use Rattle.request_table.specs.Buffers.{bufferAt, end}
 use Rattle.request_table.specs.CheckLaws.{numberOf}
 use Rattle.request_table.specs.GoodRows.{GoodRow}
 use Rattle.request_table.specs.Limits.{grid, greatestRows}
-use Rattle.request_table.specs.Table.{rows, request}
+use Rattle.request_table.specs.Table.{rows, word, request}
 use Rattle.inspection_rule.specs.ExactRule.{Passed, passed-says, passed-acceptable}
 use Rattle.inspection_rule.specs.Inspect.{proposed, proposedNeed, inspectOf}
-use Rattle.access_rule.specs.Accesses.{greatestAccesses, count, word, access, good, badAccess}
+use Rattle.access_rule.specs.Accesses.{greatestAccesses, count, access, good, badAccess}
 use Rattle.access_rule.specs.Answers.{Sized, done-says, touches-decide, touches-passed, touch-refused, done-bytes, refusal-keeps}
 use Rattle.access_rule.specs.GoodAccesses.{Reaches, good-says}
 use Rattle.access_rule.specs.GoodScripts.{LivingByte, GoodTouch, GoodScript, rising, script-says, script-of, lowest-bad}

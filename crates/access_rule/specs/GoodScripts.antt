@@ -18,8 +18,8 @@ use Rattle.words.specs.Words.{natural, isMinusOne}
 use Rattle.words.specs.WordOrders.{within, le-of, lt-of, of-le, of-lt, natural-of, from-zero, minus-one-of}
 use Rattle.request_table.specs.GoodRows.{GoodRow}
 use Rattle.request_table.specs.Limits.{greatestRows, greatestSpace, lastMoment}
-use Rattle.request_table.specs.Table.{rows, request, word as tableWord}
-use Rattle.access_rule.specs.Accesses.{count, word, access, momentBefore, good, badAccess}
+use Rattle.request_table.specs.Table.{rows, word, request}
+use Rattle.access_rule.specs.Accesses.{count, access, momentBefore, good, badAccess}
 use Rattle.access_rule.specs.GoodAccesses.{Reaches, good-says, good-of}
 
 -- "it names a request row alive at that moment, 0 ≤ index < size, and the value is allowed".
@@ -27,10 +27,10 @@ pub record LivingByte (t s : List ℤ) (k : ℕ) : Type 0 where
   pub row : ℕ
   pub names : word s k 1 ≡ pos row
   pub named : row < rows t
-  pub begun : tableWord t row 1 ≤ℤ word s k 0
-  pub lasting : word s k 0 ≤ℤ tableWord t row 2
+  pub begun : word t row 1 ≤ℤ word s k 0
+  pub lasting : word s k 0 ≤ℤ word t row 2
   pub index-from : pos 0 ≤ℤ word s k 2
-  pub index-below : word s k 2 <ℤ tableWord t row 0
+  pub index-below : word s k 2 <ℤ word t row 0
   pub value-from : negsuc 0 ≤ℤ word s k 3
   pub value-to : word s k 3 ≤ℤ pos 255
 
@@ -60,19 +60,19 @@ value-of (negsuc n) p q = let e : n ≡ 0 = omega (arith, leb→le n 0 (p .le)) 
 
 module _ (g : ℕ) (t s : List ℤ) (rows-good : (r : ℕ) → r < rows t → GoodRow g t r) (few : rows t ≤ greatestRows) where
   -- the words of a row that a touch names, as natural numbers
-  size-is : (r : ℕ) → r < rows t → tableWord t r 0 ≡ pos (natural (tableWord t r 0))
-  size-is r l = natural-of (tableWord t r 0) (rows-good r l .size-from)
+  size-is : (r : ℕ) → r < rows t → word t r 0 ≡ pos (natural (word t r 0))
+  size-is r l = natural-of (word t r 0) (rows-good r l .size-from)
 
-  first-is-natural : (r : ℕ) → r < rows t → tableWord t r 1 ≡ pos (natural (tableWord t r 1))
-  first-is-natural r l = natural-of (tableWord t r 1) (rows-good r l .first-from)
+  first-is-natural : (r : ℕ) → r < rows t → word t r 1 ≡ pos (natural (word t r 1))
+  first-is-natural r l = natural-of (word t r 1) (rows-good r l .first-from)
 
-  last-is : (r : ℕ) → r < rows t → tableWord t r 2 ≡ pos (natural (tableWord t r 2))
-  last-is r l = natural-of (tableWord t r 2) (from-zero (tableWord t r 1) (tableWord t r 2) (rows-good r l .first-from) (rows-good r l .first-to))
+  last-is : (r : ℕ) → r < rows t → word t r 2 ≡ pos (natural (word t r 2))
+  last-is r l = natural-of (word t r 2) (from-zero (word t r 1) (word t r 2) (rows-good r l .first-from) (rows-good r l .first-to))
 
-  last-small : (r : ℕ) → r < rows t → natural (tableWord t r 2) ≤ lastMoment
+  last-small : (r : ℕ) → r < rows t → natural (word t r 2) ≤ lastMoment
   last-small r l = of-le _ _ (subst (λ (z : ℤ). z ≤ℤ pos lastMoment) (last-is r l) (rows-good r l .last-to))
 
-  size-small : (r : ℕ) → r < rows t → natural (tableWord t r 0) ≤ greatestSpace
+  size-small : (r : ℕ) → r < rows t → natural (word t r 0) ≤ greatestSpace
   size-small r l = of-le _ _ (subst (λ (z : ℤ). z ≤ℤ pos greatestSpace) (size-is r l) (rows-good r l .size-to))
 
   -- What reaches a byte in natural numbers does so in signed ones,
@@ -88,10 +88,10 @@ module _ (g : ℕ) (t s : List ℤ) (rows-good : (r : ℕ) → r < rows t → Go
         row = r;
         names = within (word s k 1) greatestRows (omega arith) (omega (arith, n)) .is;
         named = n;
-        begun = subst (λ (z : ℤ). z ≤ℤ word s k 0) (sym (first-is-natural r n)) (subst (λ (z : ℤ). pos (natural (tableWord t r 1)) ≤ℤ z) (sym m) (le-of _ _ (x .begun)));
-        lasting = subst (λ (z : ℤ). z ≤ℤ tableWord t r 2) (sym m) (subst (λ (z : ℤ). pos (natural (word s k 0)) ≤ℤ z) (sym (last-is r n)) (le-of _ _ (x .lasting)));
+        begun = subst (λ (z : ℤ). z ≤ℤ word s k 0) (sym (first-is-natural r n)) (subst (λ (z : ℤ). pos (natural (word t r 1)) ≤ℤ z) (sym m) (le-of _ _ (x .begun)));
+        lasting = subst (λ (z : ℤ). z ≤ℤ word t r 2) (sym m) (subst (λ (z : ℤ). pos (natural (word s k 0)) ≤ℤ z) (sym (last-is r n)) (le-of _ _ (x .lasting)));
         index-from = subst (λ (z : ℤ). pos 0 ≤ℤ z) (sym i) (le-of 0 _ (omega arith));
-        index-below = subst (λ (z : ℤ). z <ℤ tableWord t r 0) (sym i) (subst (λ (z : ℤ). pos (natural (word s k 2)) <ℤ z) (sym (size-is r n)) (lt-of _ _ (x .inside)));
+        index-below = subst (λ (z : ℤ). z <ℤ word t r 0) (sym i) (subst (λ (z : ℤ). pos (natural (word s k 2)) <ℤ z) (sym (size-is r n)) (lt-of _ _ (x .inside)));
         value-from = v .0;
         value-to = v .1;
       }
@@ -103,16 +103,16 @@ module _ (g : ℕ) (t s : List ℤ) (rows-good : (r : ℕ) → r < rows t → Go
       let e : natural (word s k 1) ≡ x .row = ap natural (x .names) in
       let r = x .row in
       let n = x .named in
-      let m = natural-of (word s k 0) (from-zero (tableWord t r 1) (word s k 0) (rows-good r n .first-from) (x .begun)) in
+      let m = natural-of (word s k 0) (from-zero (word t r 1) (word s k 0) (rows-good r n .first-from) (x .begun)) in
       let i = natural-of (word s k 2) (x .index-from) in
-      let b = of-le _ _ (subst (λ (z : ℤ). z ≤ℤ pos (natural (word s k 0))) (first-is-natural r n) (subst (λ (z : ℤ). tableWord t r 1 ≤ℤ z) m (x .begun))) in
-      let l = of-le _ _ (subst (λ (z : ℤ). z ≤ℤ pos (natural (tableWord t r 2))) m (subst (λ (z : ℤ). word s k 0 ≤ℤ z) (last-is r n) (x .lasting))) in
-      let j = of-lt _ _ (subst (λ (z : ℤ). z <ℤ pos (natural (tableWord t r 0))) i (subst (λ (z : ℤ). word s k 2 <ℤ z) (size-is r n) (x .index-below))) in
+      let b = of-le _ _ (subst (λ (z : ℤ). z ≤ℤ pos (natural (word s k 0))) (first-is-natural r n) (subst (λ (z : ℤ). word t r 1 ≤ℤ z) m (x .begun))) in
+      let l = of-le _ _ (subst (λ (z : ℤ). z ≤ℤ pos (natural (word t r 2))) m (subst (λ (z : ℤ). word s k 0 ≤ℤ z) (last-is r n) (x .lasting))) in
+      let j = of-lt _ _ (subst (λ (z : ℤ). z <ℤ pos (natural (word t r 0))) i (subst (λ (z : ℤ). word s k 2 <ℤ z) (size-is r n) (x .index-below))) in
       record {
         named = subst (λ (q : ℕ). q < rows t) (sym e) n;
-        begun = subst (λ (q : ℕ). natural (tableWord t q 1) ≤ natural (word s k 0)) (sym e) b;
-        lasting = subst (λ (q : ℕ). natural (word s k 0) ≤ natural (tableWord t q 2)) (sym e) l;
-        inside = subst (λ (q : ℕ). natural (word s k 2) < natural (tableWord t q 0)) (sym e) j;
+        begun = subst (λ (q : ℕ). natural (word t q 1) ≤ natural (word s k 0)) (sym e) b;
+        lasting = subst (λ (q : ℕ). natural (word s k 0) ≤ natural (word t q 2)) (sym e) l;
+        inside = subst (λ (q : ℕ). natural (word s k 2) < natural (word t q 0)) (sym e) j;
         value = value-of (word s k 3) (x .value-from) (x .value-to);
       }
 
@@ -152,7 +152,7 @@ module _ (g : ℕ) (t s : List ℤ) (rows-good : (r : ℕ) → r < rows t → Go
   not-back zero f x = omega arith
   not-back (suc j) f x =
       let y = x .living in
-      let m = natural-of (word s (suc j) 0) (from-zero (tableWord t (y .row) 1) (word s (suc j) 0) (rows-good (y .row) (y .named) .first-from) (y .begun)) in
+      let m = natural-of (word s (suc j) 0) (from-zero (word t (y .row) 1) (word s (suc j) 0) (rows-good (y .row) (y .named) .first-from) (y .begun)) in
       of-le _ _ (subst (λ (z : ℤ). z ≤ℤ pos (natural (word s (suc j) 0))) (moment-is j (f j (omega arith))) (subst (λ (z : ℤ). word s j 0 ≤ℤ z) m (x .moments j (omega arith))))
 
   -- and the other.

@@ -8,9 +8,9 @@ use native.Mathlib.Omega.{arith}
 use lib.Dec.{leb, ltb}
 use lib.IntN.{ℤ}
 use Rattle.words.specs.Words.{wordAt, natural, isMinusOne}
-use Rattle.request_table.specs.Table.{rows, request}
+use Rattle.request_table.specs.Table.{rows, word, request}
 use Rattle.request_table.specs.declared.Request.{Request}
-use Rattle.access_rule.specs.Accesses.{word, access, momentBefore, alive, allowed, reaches, good}
+use Rattle.access_rule.specs.Accesses.{access, momentBefore, alive, allowed, reaches, good}
 use Rattle.access_rule.specs.declared.Access.{Access}
 
 -- A touch, from its words.
