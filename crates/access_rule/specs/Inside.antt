@@ -7,7 +7,7 @@ use native.Mathlib.Omega.{arith}
 use lib.IntN.{ℤ}
 use Rattle.request_table.specs.Buffers.{bufferAt, end}
 use Rattle.request_table.specs.Needs.{need-bounds}
-use Rattle.request_table.specs.Rounding.{occupied-holds, occupied-some}
+use Rattle.alignment.specs.Rounding.{up-holds, up-something}
 use Rattle.request_table.specs.Table.{request}
 use Rattle.inspection_rule.specs.ExactRule.{passed-says}
 use Rattle.inspection_rule.specs.Inspect.{proposed, proposedNeed, inspectOf}
@@ -20,12 +20,12 @@ module _ (g : ℕ) (t : List ℤ) (o : List ℤ) (h : 0 < g) (a : Access) (r : R
   -- The byte is below the row's end,
   pub below-end : byteOf o a < end (bufferAt g t (a .row .0) (proposed o (a .row .0)))
   unfolding byteOf
-  below-end = omega (arith, r .inside, occupied-holds g (request t (a .row .0) .size) h)
+  below-end = omega (arith, r .inside, up-holds g (request t (a .row .0) .size) h)
 
   -- which is at most the need.
   pub end-needed : end (bufferAt g t (a .row .0) (proposed o (a .row .0))) ≤ proposedNeed g t o
   unfolding proposedNeed
-  end-needed = need-bounds g t (proposed o) (a .row .0) (r .named) (occupied-some g (request t (a .row .0) .size) h (omega (arith, r .inside)))
+  end-needed = need-bounds g t (proposed o) (a .row .0) (r .named) (up-something g (request t (a .row .0) .size) h (omega (arith, r .inside)))
 
 -- A good touch of an accepted plan falls below the space.
 pub inside : (g : ℕ) (t : List ℤ) (space : ℕ) (o s : List ℤ) → 0 < g → inspectOf g t space o .number ≡ 0 → (k : ℕ) → good t s k ≡ true → byteOf o (access s k) < space

@@ -8,7 +8,7 @@ use lib.IntN.{ℤ}
 use Rattle.bounded.specs.Boolean.{lt-or-le}
 use Rattle.request_table.specs.Buffers.{bufferAt}
 use Rattle.request_table.specs.Colliding.{Colliding, not-colliding}
-use Rattle.request_table.specs.Rounding.{occupied-holds}
+use Rattle.alignment.specs.Rounding.{up-holds}
 use Rattle.request_table.specs.Table.{rows, request}
 use Rattle.inspection_rule.specs.ExactRule.{Passed}
 use Rattle.inspection_rule.specs.Inspect.{proposed}
@@ -24,8 +24,8 @@ pub record Holds (t o : List ℤ) (a x m : ℕ) : Type 0 where
 module _ (g : ℕ) (t : List ℤ) (space : ℕ) (o : List ℤ) (h : 0 < g) (p : Passed g t space o) where
   both-hold-it : {a b x m : ℕ} → Holds t o a x m → Holds t o b x m → Colliding (bufferAt g t a (proposed o a)) (bufferAt g t b (proposed o b))
   both-hold-it {a} {b} u v =
-      let s = occupied-holds g (request t a .size) h in
-      let z = occupied-holds g (request t b .size) h in
+      let s = up-holds g (request t a .size) h in
+      let z = up-holds g (request t b .size) h in
       record {
         a-nonempty = omega (arith, u .from, u .below);
         b-nonempty = omega (arith, v .from, v .below);

@@ -1,5 +1,5 @@
 -- Document 01, "Answer numbers". An answer is a number, two places a and b, and a need; each is 0 unless the document's table names it.
--- The numbers have names here and in the code; the answers are made by the five forms below, so that what each carries can be read off.
+-- The numbers have names here and in the code; the answers are made by the six forms below, so that what each carries can be read off.
 use Prim.Native.Nat.{ℕ}
 use Rattle.answer.specs.declared.Answer.{Answer}
 
@@ -98,6 +98,10 @@ readBeforeWritten = 21
 -- Done, with the need of the plan.
 abbrev pub doneWith : ℕ → Answer
 doneWith need = record { number = done; a = 0; b = 0; need = need }
+
+-- Done, with the start of what was allocated.
+abbrev pub doneAt : ℕ → Answer
+doneAt start = record { number = done; a = start; b = 0; need = 0 }
 
 -- Refused, with nothing carried.
 abbrev pub refused : ℕ → Answer

@@ -1,6 +1,6 @@
 // Document 01, "Answer numbers": an answer is a number, two places a and b, and a need; each is 0 unless the document names it.
 ghost use mathlib.Core.Path.{_≡_};
-ghost use Rattle.answer.specs.Answer.{doneWith, refused as refusedBy, refusedAt, refusedPair, refusedNeed};
+ghost use Rattle.answer.specs.Answer.{doneWith, doneAt, refused as refusedBy, refusedAt, refusedPair, refusedNeed};
 
 pub struct Answer {
     pub number: u32,
@@ -64,6 +64,15 @@ impl Answer {
             b: 0,
             need,
         }
+    }
+
+    // Done, with the start of what was allocated.
+    pub fn done_at(start: u32) -> Answer
+        ensures { λ r. ⌜ r ≡ doneAt start ⌝ }
+    {
+        let mut answer = Answer::done(0);
+        answer.a = start;
+        answer
     }
 
     // Refused, with nothing carried.

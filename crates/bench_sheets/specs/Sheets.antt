@@ -6,6 +6,7 @@ use mathlib.Core.List.{List, [], _∷_, _++_, map}
 use mathlib.Core.Path.{_≡_, refl}
 use lib.IntN.{ℤ, pos, negsuc}
 use lib.ListN.{length}
+use Rattle.alignment.specs.Rounding.{roundedUp}
 use Rattle.answer.specs.Answer.{doneWith, refusedPair, refusedNeed, fixedRowsCollide, needExceedsSpace}
 use Rattle.answer.specs.declared.Answer.{Answer}
 use Rattle.bounded.specs.Count.{one, count}
@@ -15,7 +16,7 @@ use Rattle.bounded.specs.InOrder.{listFrom, rank, atRank, inOrder}
 use Rattle.bounded.specs.Pair.{partner, hasPartner, pairBelow, pairFirst, pairSecond}
 use Rattle.bounded.specs.Replaced.{replaced}
 use Rattle.words.specs.Words.{natural, isMinusOne}
-use Rattle.request_table.specs.Buffers.{occupied, liveTogether, shareByte, collides, endOrZero, need}
+use Rattle.request_table.specs.Buffers.{liveTogether, shareByte, collides, endOrZero, need}
 use Rattle.request_table.specs.Limits.{grid}
 use Rattle.request_table.specs.Table.{request, good}
 use Rattle.placement.specs.Placing.{put, free, top, lowest, offsetFor, placing, place}
@@ -107,5 +108,5 @@ sheets = planner-sheets
 
 -- The two columns are equal.
 pub sheets-hold : map (λ (s : Sheet). s .given) sheets ≡ map (λ (s : Sheet). s .wanted) sheets
-unfolding one count firstFrom firstIn holdsBelow greatest listFrom rank atRank inOrder partner hasPartner pairBelow pairFirst pairSecond replaced natural isMinusOne occupied liveTogether shareByte collides endOrZero need request good put free top lowest offsetFor placing place largerFirst fixedRows greedyOrder greedyPlan fixedCollide greedyNeed planOf plannedTable
+unfolding one count firstFrom firstIn holdsBelow greatest listFrom rank atRank inOrder partner hasPartner pairBelow pairFirst pairSecond replaced natural isMinusOne roundedUp liveTogether shareByte collides endOrZero need request good put free top lowest offsetFor placing place largerFirst fixedRows greedyOrder greedyPlan fixedCollide greedyNeed planOf plannedTable
 sheets-hold = refl

@@ -25,10 +25,14 @@ abbrev pub NoneHolds : {A : Type 0} → List (Cause A) → Type 0
 NoneHolds [] = Unit {0}
 NoneHolds (c ∷ cs) = (c .holds ≡ false) × NoneHolds cs
 
+-- It is so of the answer of every cause of the list.
+abbrev pub AllGive : {A : Type 0} → (A → Type 0) → List (Cause A) → Type 0
+AllGive So [] = Unit {0}
+AllGive So (c ∷ cs) = So (c .gives) × AllGive So cs
+
 -- Every cause of the list gives a refusal.
 abbrev pub AllRefuse : {A : Type 0} → (A → ℕ) → List (Cause A) → Type 0
-AllRefuse number [] = Unit {0}
-AllRefuse number (c ∷ cs) = (number (c .gives) ≡ 0 → ⊥) × AllRefuse number cs
+AllRefuse number cs = AllGive (λ a. number a ≡ 0 → ⊥) cs
 
 module _ {A : Type 0} where
   -- No cause holds: what follows is the answer.
@@ -40,6 +44,15 @@ module _ {A : Type 0} where
   pub follows-more : (cs ds : List (Cause A)) (d : A) → NoneHolds cs → firstCause (cs ++ ds) d ≡ firstCause ds d
   follows-more [] ds d f = refl
   follows-more (c ∷ cs) ds d f = rw (f .0, firstCause) (follows-more cs ds d (f .1))
+
+  -- What is so of every cause's answer, and of what follows where no cause holds, is so of the answer.
+  pub by-causes : (So : A → Type 0) (cs : List (Cause A)) (d : A) → AllGive So cs → (NoneHolds cs → So d) → So (firstCause cs d)
+  by-causes So [] d f e = e tt
+  by-causes So (c ∷ cs) d f e = go (c .holds) refl (by-causes So cs d (f .1))
+    where
+      go : (b : Bool) → c .holds ≡ b → ((NoneHolds cs → So d) → So (firstCause cs d)) → So (elim b [ true ↦ c .gives | false ↦ firstCause cs d ])
+      go true q k = f .0
+      go false q k = k (λ n. e (q, n))
 
 module _ {A : Type 0} (number : A → ℕ) where
   -- A refusal of the first list stands, whatever follows.

@@ -1,21 +1,11 @@
-// A row at an offset (document 01, "Requests and the greedy rule"): the occupied size, the grid, whether two buffers live together and collide. Rounding
-// up and the test for living together are one function each, for whoever plans or judges a plan. All is total: any grid, any buffer.
+// A row at an offset (document 01, "Requests and the greedy rule"): its buffer, the grid, whether two buffers live together and collide. The test for
+// living together is one function, for whoever plans or judges a plan; rounding up is `alignment`'s. All is total: any grid, any buffer.
 ghost use mathlib.Core.Path.{_≡_};
 ghost use Rattle.request_table.specs.Table.{onGrid};
-ghost use Rattle.request_table.specs.Buffers.{occupied, buffer, liveTogether, endsAfter, collides};
+ghost use Rattle.request_table.specs.Buffers.{buffer, liveTogether, endsAfter, collides};
 use request_table::Buffer;
 use request_table::Request;
 use units::Offset;
-
-// The occupied size: the size rounded up to a multiple of the grid. No number is a multiple of a grid of 0 but 0.
-pub fn occupied_size(grid: u32, size: u32) -> u64
-    ensures { λ r. ⌜ r ≡ occupied grid size ⌝ }
-{
-    if grid == 0 {
-        return 0;
-    }
-    (size as u64 + (grid as u64 - 1)) / grid as u64 * grid as u64
-}
 
 // Whether the offset is a multiple of the grid.
 pub fn on_grid(grid: u32, offset: Offset) -> bool
@@ -31,7 +21,7 @@ pub fn on_grid(grid: u32, offset: Offset) -> bool
 pub fn buffer_at(grid: u32, request: Request, offset: Offset) -> Buffer
     ensures { λ r. ⌜ r ≡ buffer grid request offset ⌝ }
 {
-    let length = occupied_size(grid, request.size);
+    let length = alignment::round_up(grid, request.size);
     let first = request.first;
     let last = request.last;
     Buffer {

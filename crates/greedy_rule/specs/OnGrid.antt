@@ -9,7 +9,7 @@ use native.Mathlib.Omega.{arith}
 use borrow.Author.Tests.{ltb-true}
 use lib.IntN.{ℤ}
 use Rattle.request_table.specs.GoodRows.{good-on-grid}
-use Rattle.request_table.specs.Rounding.{end-on-grid}
+use Rattle.alignment.specs.Rounding.{up-from-multiple}
 use Rattle.request_table.specs.Table.{rows, request, fixed, good}
 use Rattle.placement.specs.LowestFree.{EndsAt, lowest-is-an-end}
 use Rattle.placement.specs.Placing.{lowest, offsetFor}
@@ -36,7 +36,7 @@ module _ (g : ℕ) (t : List ℤ) (goods : (r : ℕ) → r < rows t → good g (
           let b : position g t (e .row) < position g t r = ltb-true _ _ (sym (placed-from g t (e .row) (e .within) (position g t r) within) ∙ e .placed) in
           let s = stage-is-plan g t (e .row) (e .within) (position g t r) within b in
           ap (λ (i : ℕ). i % g) (sym (e .there))
-          ∙ end-on-grid g (request t (e .row) .size) _ (ap (λ (i : ℕ). i % g) s ∙ rec (e .row) (e .within) (omega arith))
+          ∙ up-from-multiple g (request t (e .row) .size) _ (ap (λ (i : ℕ). i % g) s ∙ rec (e .row) (e .within) (omega arith))
 
       go : Lower → (x : Bool) → fixed t r ≡ x → greedyPlan g t r % g ≡ 0
       go rec true f = ap (λ (i : ℕ). i % g) (fixed-rows-stay g t r l f) ∙ good-on-grid g (request t r) (goods r l) f

@@ -11,7 +11,7 @@ use Rattle.request_table.specs.Buffers.{bufferAt}
 use Rattle.request_table.specs.GoodRows.{good-offset}
 use Rattle.request_table.specs.Limits.{greatestSpace}
 use Rattle.request_table.specs.Needs.{need-bounds}
-use Rattle.request_table.specs.Rounding.{occupied-holds}
+use Rattle.alignment.specs.Rounding.{up-holds}
 use Rattle.request_table.specs.Table.{rows, request, fixed}
 use Rattle.greedy_rule.specs.EmptyRows.{empty-at-zero}
 use Rattle.greedy_rule.specs.Greedy.{greedyPlan}
@@ -27,4 +27,4 @@ plan-fits g t space room h d r l = go (lt-or-le 0 (bufferAt g t r (greedyPlan g 
     go : (0 < bufferAt g t r (greedyPlan g t r) .length) ⊎ (bufferAt g t r (greedyPlan g t r) .length ≤ 0) → (b : Bool) → fixed t r ≡ b → greedyPlan g t r ≤ greatestSpace
     go (inl n) b e = omega (arith, need-bounds g t (greedyPlan g t) r l n, d .fits, d .checks .allowed)
     go (inr n) true e = omega (arith, fixed-rows-stay g t r l e, good-offset g (request t r) (d .checks .goodRows r l) e)
-    go (inr n) false e = omega (arith, empty-at-zero g t r (omega (arith, occupied-holds g (request t r .size) h)) l e)
+    go (inr n) false e = omega (arith, empty-at-zero g t r (omega (arith, up-holds g (request t r .size) h)) l e)

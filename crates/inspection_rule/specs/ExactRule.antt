@@ -26,7 +26,7 @@ use Rattle.request_table.specs.Colliding.{Colliding, apart, not-colliding}
 use Rattle.request_table.specs.GoodRows.{good-offset}
 use Rattle.request_table.specs.Limits.{greatestSpace}
 use Rattle.request_table.specs.Needs.{EndsThere, need-bounds, need-is-one}
-use Rattle.request_table.specs.Rounding.{occupied-some, occupied-empty}
+use Rattle.alignment.specs.Rounding.{up-something, up-nothing}
 use Rattle.request_table.specs.Table.{rows, word, request, fixed, fixedOffset}
 use Rattle.request_table.specs.WellFormed.{WellFormed, passes, passed-is-well-formed}
 use Rattle.inspection_rule.specs.Answers.{proposal-decides}
@@ -115,7 +115,7 @@ module _ (g : ℕ) (o : List ℤ) (r : ℕ) where
 module _ (g : ℕ) (t o : List ℤ) (space : ℕ) (h : 0 < g) where
   fits-says : proposedNeed g t o ≤ space → (r : ℕ) → r < rows t → 0 < request t r .size → proposed o r + occupied g (request t r .size) ≤ space
   unfolding proposedNeed
-  fits-says l r m s = omega (arith, need-bounds g t (proposed o) r m (occupied-some g (request t r .size) h s))
+  fits-says l r m s = omega (arith, need-bounds g t (proposed o) r m (up-something g (request t r .size) h s))
 
   fits-of : ((r : ℕ) → r < rows t → 0 < request t r .size → proposed o r + occupied g (request t r .size) ≤ space) → proposedNeed g t o ≤ space
   unfolding proposedNeed
@@ -123,7 +123,7 @@ module _ (g : ℕ) (t o : List ℤ) (space : ℕ) (h : 0 < g) where
     where
       some : (r : ℕ) → 0 < occupied g (request t r .size) → (0 < request t r .size) ⊎ (request t r .size ≤ 0) → 0 < request t r .size
       some r l (inl s) = s
-      some r l (inr s) = let e : request t r .size ≡ 0 = omega arith in absurd (omega (arith, occupied-empty g, ap (occupied g) e))
+      some r l (inr s) = let e : request t r .size ≡ 0 = omega arith in absurd (omega (arith, up-nothing g, ap (occupied g) e))
 
       go : (need g t (proposed o) ≡ 0) ⊎ EndsThere g t (proposed o) (need g t (proposed o)) → need g t (proposed o) ≤ space
       go (inl e) = omega arith

@@ -14,7 +14,7 @@ use Rattle.request_table.specs.Colliding.{Colliding}
 use Rattle.request_table.specs.GoodRows.{good-offset}
 use Rattle.request_table.specs.Limits.{greatestSpace}
 use Rattle.request_table.specs.Needs.{need-same}
-use Rattle.request_table.specs.Rounding.{occupied-some}
+use Rattle.alignment.specs.Rounding.{up-something}
 use Rattle.request_table.specs.Table.{rows, word, request, fixedOffset}
 use Rattle.request_table.specs.WellFormed.{passed-is-well-formed}
 use Rattle.greedy_rule.specs.Answers.{Done, done-says}
@@ -58,7 +58,7 @@ module _ (g : ℕ) (t : List ℤ) (space : ℕ) (lent : List ℤ) (h : 0 < g) (e
         aligned = λ r l.
             record { times = greedyPlan g t r / g; is = plan .entries r l ∙ ap pos (omega (arith, plan .aligned r l, div-add-mod' (greedyPlan g t r) g)) };
         fits = λ r l s.
-            omega (arith, proposes r l, plan .fits, plan .need-most r l (occupied-some g (request t r .size) h s));
+            omega (arith, proposes r l, plan .fits, plan .need-most r l (up-something g (request t r .size) h s));
         apart-rows = λ a b l m c.
             plan .apart a b (omega arith) m (omega arith)
             (subst (λ (x : ℕ). Colliding (bufferAt g t a x) (bufferAt g t b (greedyPlan g t b))) (proposes a (omega arith))

@@ -13,7 +13,7 @@ use Rattle.bounded.specs.Boolean.{same-or-not}
 use Rattle.bounded.specs.First.{one-least, holds-same, none-found}
 use Rattle.request_table.specs.Buffers.{bufferAt, collides}
 use Rattle.request_table.specs.Colliding.{apart, collides-either}
-use Rattle.request_table.specs.Rounding.{occupied-empty}
+use Rattle.alignment.specs.Rounding.{up-nothing}
 use Rattle.request_table.specs.Table.{rows, request, fixed}
 use Rattle.placement.specs.Placing.{Placing, put, blocks, free, lowest, offsetFor, placing, place}
 use Rattle.placement.specs.Put.{put-there, put-elsewhere, placed-there, placed-elsewhere}
@@ -27,7 +27,7 @@ record Alike (r : ℕ) (s s′ : Placing) : Type 0 where
 module _ (g : ℕ) (t : List ℤ) (r : ℕ) (e : request t r .size ≡ 0) where
   -- An empty row collides with nothing, wherever it stands.
   empty-apart : (q o p : ℕ) → collides (bufferAt g t q o) (bufferAt g t r p) ≡ false
-  empty-apart q o p = apart _ _ (λ c. let z = occupied-empty g in let y = rw e at (c .b-nonempty) in omega arith)
+  empty-apart q o p = apart _ _ (λ c. let z = up-nothing g in let y = rw e at (c .b-nonempty) in omega arith)
 
   free-alike : (s s′ : Placing) → Alike r s s′ → (q o : ℕ) → free g t s q o ≡ free g t s′ q o
   unfolding free

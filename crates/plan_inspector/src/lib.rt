@@ -83,7 +83,7 @@ fn end_of(grid: u32, table: &[i32], offsets: &[i32], row: Row) -> u64
     ensures { λ r. ⌜ r ≡ endOrZero (bufferAt grid (now (table .entry)) (row .0) (proposed (now (offsets .entry)) (row .0))) ⌝ }
 {
     let request = requests::request_at(table, row);
-    let length = buffers::occupied_size(grid, request.size);
+    let length = alignment::round_up(grid, request.size);
     let start = proposed_at(offsets, row);
     if 0 < length {
         return start.0 + length;

@@ -1,10 +1,11 @@
 -- A row at an offset, when two such buffers collide, and what a plan needs. A plan is a function from rows to offsets, whoever made it, so that
 -- colliding and the need are the same for the planner, the inspector and the script.
-use Prim.Native.Nat.{ℕ, _+_, _-_, _*_, _/_}
+use Prim.Native.Nat.{ℕ, _+_}
 use mathlib.Core.Bool.{Bool, true, false, _&&_}
 use mathlib.Core.List.{List}
 use lib.Dec.{leb, ltb}
 use lib.IntN.{ℤ}
+use Rattle.alignment.specs.Rounding.{roundedUp}
 use Rattle.bounded.specs.Greatest.{greatest}
 use Rattle.units.specs.declared.Offset.{Offset}
 use Rattle.request_table.specs.Table.{rows, request}
@@ -12,8 +13,8 @@ use Rattle.request_table.specs.declared.Request.{Request}
 use Rattle.request_table.specs.declared.Buffer.{Buffer}
 
 -- Document 01: "The occupied size is the size rounded up to a multiple of 16."
-unfoldable pub occupied : ℕ → ℕ → ℕ
-occupied g size = (size + (g - 1)) / g * g
+abbrev pub occupied : ℕ → ℕ → ℕ
+occupied g size = roundedUp g size
 
 -- "The span starts at the offset and has that length."
 abbrev pub buffer : ℕ → Request → Offset → Buffer

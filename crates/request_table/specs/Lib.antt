@@ -4,7 +4,6 @@ pub mod Buffers
 pub mod Checks
 pub mod CheckLaws
 pub mod GoodRows
-pub mod Rounding
 pub mod Colliding
 pub mod Needs
 pub mod WellFormed

@@ -4,11 +4,11 @@ use Rattle.buffers.proofs.Tests.{buffer-is}
 use Rattle.buffers.proofs.buffer_at.Statement.{statement}
 use Rattle.buffers.proofs.buffer_at.Tie as tie
 
-occupied-size-requires : tie.Need-occupied-size-requires
-occupied-size-requires c κs = search needs
+round-up-requires : tie.Need-round-up-requires
+round-up-requires c κs = search needs
 
 returns : tie.Need-returns
-returns c = let u = c .before .before .before .args in buffer-is (u .grid) (u .request) (u .offset) (c .before .before .occupied-size .ensures)
+returns c = let u = c .before .before .before .args in buffer-is (u .grid) (u .request) (u .offset) (c .before .before .round-up .ensures)
 
 pub buffer-at-spec : {M : Type 1} → statement M
-buffer-at-spec = tie.close (tie.spec occupied-size-requires returns)
+buffer-at-spec = tie.close (tie.spec round-up-requires returns)

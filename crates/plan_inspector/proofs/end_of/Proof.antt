@@ -7,7 +7,7 @@ use borrow.Author.Needs.{needs}
 use borrow.Author.Tests.{le-ltb}
 use Rattle.request_table.specs.Buffers.{occupied, bufferAt}
 use Rattle.request_table.specs.Needs.{end-counts, empty-counts}
-use Rattle.request_table.specs.Rounding.{occupied-most}
+use Rattle.alignment.specs.Rounding.{up-most}
 use Rattle.request_table.specs.declared.Buffer.{Buffer}
 use Rattle.request_table.specs.declared.Request.{Request}
 use Rattle.inspection_rule.specs.Inspect.{proposed}
@@ -17,8 +17,8 @@ use Rattle.plan_inspector.proofs.end_of.Tie as tie
 request-at-requires : tie.Need-request-at-requires
 request-at-requires c κs = search needs
 
-occupied-size-requires : tie.Need-occupied-size-requires
-occupied-size-requires c κs = search needs
+round-up-requires : tie.Need-round-up-requires
+round-up-requires c κs = search needs
 
 proposed-at-requires : tie.Need-proposed-at-requires
 proposed-at-requires c κs = search needs
@@ -26,14 +26,14 @@ proposed-at-requires c κs = search needs
 add-result : tie.Need-add-result
 add-result c =
     let past = c .before .before in
-    omega (arith, past .proposed-at .ensures .1, past .before .occupied-size .ensures, occupied-most (past .before .before .before .args .grid) (past .before .before .request-at .result .size))
+    omega (arith, past .proposed-at .ensures .1, past .before .round-up .ensures, up-most (past .before .before .before .args .grid) (past .before .before .request-at .result .size))
 
 -- the row's buffer, and that the code's length is its length
 abbrev Proposed : tie.After-proposed-at → Buffer
 Proposed c = let u = c .before .before .before .args in bufferAt (u .grid) (now (u .table)) (u .row .0) (proposed (now (u .offsets)) (u .row .0))
 
-length-is : (c : tie.After-proposed-at) → c .before .occupied-size .result ≡ Proposed c .length
-length-is c = c .before .occupied-size .ensures ∙ ap (λ (x : Request). occupied (c .before .before .before .args .grid) (x .size)) (c .before .before .request-at .ensures)
+length-is : (c : tie.After-proposed-at) → c .before .round-up .result ≡ Proposed c .length
+length-is c = c .before .round-up .ensures ∙ ap (λ (x : Request). occupied (c .before .before .before .args .grid) (x .size)) (c .before .before .request-at .ensures)
 
 returns : tie.Need-returns
 returns c =
@@ -50,7 +50,7 @@ end-of-spec =
     tie.close
     (tie.spec
     request-at-requires
-    occupied-size-requires
+    round-up-requires
     proposed-at-requires
     add-result
     returns

@@ -4,7 +4,7 @@ use mathlib.Core.Path.{ap}
 use native.Mathlib.Omega.{arith}
 use Rattle.request_table.specs.Buffers.{endOrZero}
 use Rattle.request_table.specs.Needs.{Needing, needing-start, needing-more, needing-done}
-use Rattle.request_table.specs.Rounding.{occupied-most}
+use Rattle.alignment.specs.Rounding.{up-most}
 use Rattle.greedy_rule.specs.Greedy.{greedyPlan}
 use Rattle.greedy_rule.specs.Plan.{greedyNeed}
 use Rattle.greedy_planner.proofs.RowBuffer.{row-buffer}
@@ -37,7 +37,7 @@ raised-requires c κs =
     let u = c .before .before .before .before .before .before in
     let b = c .buffer-at .ensures in
     let o = u .pre .1 .small (c .before .before .before .before .before .loop .row .0) (c .before .before .before .if1 .taken) in
-    let l = occupied-most (u .args .grid) (c .before .before .request-at .result .size) in
+    let l = up-most (u .args .grid) (c .before .before .request-at .result .size) in
     rw b (omega arith)
 
 add-t13 : tie.Need-add-t13 Inv-loop μ-loop

@@ -1,0 +1,91 @@
+-- Law: document 01's promise over whole histories, one theorem: "From a fresh state, after any sequence, usable − tail is the sum, over accepted keeps in
+-- the history, of size and gap, the gap being (tail before − size) mod alignment; no two kept spans share a byte, and none meets the head or a borrowed
+-- span not yet reset." It holds on any grid, after any accepted opening and any list of operations with any arguments, refused ones among them.
+use Prim.Native.Nat.{ℕ, _+_}
+use mathlib.Core.List.{List, [], _∷_}
+use mathlib.Core.Path.{_≡_}
+use native.Mathlib.Omega.{arith}
+use borrow.Author.Tests.{ltb-false}
+use lib.Dec.{ltb}
+use lib.ListN.{take}
+use Rattle.alignment.specs.Alignments.{loss}
+use Rattle.answer.specs.Answer.{done}
+use Rattle.bounded.specs.Boolean.{neither}
+use Rattle.bounded.specs.Causes.{by-causes}
+use Rattle.arena_sections.specs.Effects.{Each, EachTwo, Has, Apart, Inside, KeptApart, KeptInside, noSpan, noKept, tempBy, Books, goes-on, begins}
+use Rattle.arena_sections.specs.History.{Operation, Span, Kept, Held, outcomeOf, after, events, used, tailBy, effectOf, heldAfter, nothingHeld, opened, stateAfter, held}
+use Rattle.arena_sections.specs.OperationEffects.{has-effect}
+use Rattle.arena_sections.specs.Ordered.{Ordered}
+use Rattle.arena_sections.specs.Sections.{greatestLength, fresh, doneWith, usableLength, openCauses, openOf}
+use Rattle.arena_sections.specs.declared.Outcome.{Outcome}
+use Rattle.arena_sections.specs.declared.Sections.{Sections}
+
+-- The span of the head section.
+abbrev pub headSpan : ℕ → Span
+headSpan head = record { start = 0; size = head }
+
+-- The law, of the state after a history and what the history holds.
+pub record SoundHistory (g start len : ℕ) (ops : List Operation) : Type 0 where
+  -- usable − tail is the sum over the accepted keeps of size and gap
+  pub sum : opened g start len .usable ≡ stateAfter g start len ops .tail + used (held g start len ops .kept)
+  -- no two kept spans share a byte
+  pub kept-apart : EachTwo KeptApart (held g start len ops .kept) noKept
+  -- none meets the head
+  pub kept-off-head : Each (λ (k : Kept). Apart (k .span) (headSpan (stateAfter g start len ops .head))) (held g start len ops .kept) noKept
+  -- none meets a borrowed span that has not been reset
+  pub kept-off-borrowed : Each (λ (k : Kept). Each (Apart (k .span)) (held g start len ops .borrowed) noSpan) (held g start len ops .kept) noKept
+  -- no two borrowed spans that are out share a byte
+  pub borrowed-apart : EachTwo Apart (held g start len ops .borrowed) noSpan
+  -- none meets the head
+  pub borrowed-off-head : Each (λ (x : Span). Apart x (headSpan (stateAfter g start len ops .head))) (held g start len ops .borrowed) noSpan
+  -- no span leaves the usable part
+  pub kept-inside : Each (KeptInside 0 (opened g start len .usable)) (held g start len ops .kept) noKept
+  pub borrowed-inside : Each (Inside 0 (opened g start len .usable)) (held g start len ops .borrowed) noSpan
+  -- the state is what the history says: the head, where the temporaries end, where persistent memory starts
+  pub head-is : stateAfter g start len ops .head ≡ held g start len ops .head
+  pub temp-is : stateAfter g start len ops .temp ≡ tempBy (held g start len ops .head) (held g start len ops .borrowed)
+  pub tail-is : stateAfter g start len ops .tail ≡ tailBy (opened g start len .usable) (held g start len ops .kept)
+  -- after each of the operations, the first k of them, the state is valid, and usable is the opening's
+  pub each-valid : (k : ℕ) → Ordered (stateAfter g start len (take k ops))
+  pub each-usable : (k : ℕ) → stateAfter g start len (take k ops) .usable ≡ opened g start len .usable
+
+module _ (g usable : ℕ) where
+  -- The books agree after every operation.
+  runs : (ops : List Operation) (s : Sections) (h : Held) → Books usable s h → Books usable (after g s ops) (heldAfter usable h (events g s ops))
+  unfolding after events heldAfter
+  runs [] s h b = b
+  runs (op ∷ ops) s h b = runs ops (outcomeOf g s op .sections) _ (goes-on (effectOf (tailBy usable (h .kept)) (record { operation = op; answer = outcomeOf g s op .answer })) b (rw (← b .tail-is) (has-effect g s op)))
+
+-- An accepted opening begins books that agree.
+opening-begins : (g start len : ℕ) → openOf g start len .answer .number ≡ done → Books (opened g start len .usable) (opened g start len) nothingHeld
+unfolding openOf
+opening-begins g start len =
+    by-causes (λ (o : Outcome). o .answer .number ≡ done → Books (o .sections .usable) (o .sections) nothingHeld)
+    (openCauses g start len) (doneWith 0 (fresh (usableLength g start len)))
+    ((λ e. absurd (omega arith)), tt)
+    (λ n e. begins (usableLength g start len) (ltb-false _ _ (neither (ltb len (loss g start)) (ltb greatestLength (usableLength g start len)) (n .0) .1)))
+
+-- Every history is sound, from an accepted opening on.
+pub sound-history : (g start len : ℕ) (ops : List Operation) → openOf g start len .answer .number ≡ done → SoundHistory g start len ops
+sound-history g start len ops a =
+    record {
+      sum = b .sum;
+      kept-apart = b .kept-apart;
+      kept-off-head = λ i m byte x y. omega (arith, b .kept-inside i m byte x .0, y .below, b .ordered);
+      kept-off-borrowed = λ i m j n byte x y. omega (arith, b .kept-inside i m byte x .0, b .borrowed-inside j n byte y .1, b .ordered);
+      borrowed-apart = b .borrowed-apart;
+      borrowed-off-head = λ i m byte x y. omega (arith, b .borrowed-inside i m byte x .0, y .below);
+      kept-inside = λ i m byte x. (omega arith, b .kept-inside i m byte x .1);
+      borrowed-inside = λ i m byte x. (omega arith, omega (arith, b .borrowed-inside i m byte x .1, b .ordered, b .same-usable));
+      head-is = b .head-is;
+      temp-is = b .temp-is;
+      tail-is = b .tail-is;
+      each-valid = λ k. books (take k ops) .ordered;
+      each-usable = λ k. books (take k ops) .same-usable;
+    }
+  where
+    books : (os : List Operation) → Books (opened g start len .usable) (stateAfter g start len os) (held g start len os)
+    books os = runs g (opened g start len .usable) os (opened g start len) nothingHeld (opening-begins g start len a)
+
+    b : Books (opened g start len .usable) (stateAfter g start len ops) (held g start len ops)
+    b = books ops
