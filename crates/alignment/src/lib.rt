@@ -1,7 +1,7 @@
 // Rounding to a grid or an alignment, the bytes lost before the first multiple, and the alignments that a grid allows. Rounding up is one function, for
 // whoever rounds. All is total: any grid, any number; no number is a multiple of a grid of 0 but 0.
 ghost use mathlib.Core.Path.{_≡_};
-ghost use Rattle.alignment.specs.Rounding.{roundedUp, roundedDown};
+ghost use Rattle.alignment.specs.Rounding.{roundedUp};
 ghost use Rattle.alignment.specs.Alignments.{loss, allowed};
 
 // The least multiple of the grid that is at least the number.
@@ -12,16 +12,6 @@ pub fn round_up(grid: u32, number: u32) -> u64
         return 0;
     }
     (number as u64 + (grid as u64 - 1)) / grid as u64 * grid as u64
-}
-
-// The greatest multiple of the grid that is at most the number.
-pub fn round_down(grid: u32, number: u32) -> u32
-    ensures { λ r. ⌜ r ≡ roundedDown grid number ⌝ }
-{
-    if grid == 0 {
-        return 0;
-    }
-    number - number % grid
 }
 
 // The bytes before the first multiple of the grid, from a start on.

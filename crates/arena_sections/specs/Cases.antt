@@ -1,12 +1,13 @@
 -- The outcomes as the code comes to them, cause after cause.
-use Prim.Native.Nat.{ℕ, _+_, _<_, _≤_}
+use Prim.Native.Nat.{ℕ, _+_, _-_, _%_, _<_, _≤_}
 use mathlib.Core.Bool.{true, false}
 use mathlib.Core.Path.{_≡_, refl, sym, _∙_}
 use native.Mathlib.Omega.{arith}
 use borrow.Author.Tests.{lt-ltb, le-ltb, ne-eqb, eq-eqb, not-false}
-use Rattle.alignment.specs.Alignments.{loss, allowed}
+use Rattle.alignment.specs.Alignments.{loss, allowed, allowed-says, allowed-some}
+use Rattle.alignment.specs.Rounding.{down-rest}
 use Rattle.answer.specs.Answer.{sectionsNotValid, badAlignment, noRoom, temporariesOut, headMadeSmaller}
-use Rattle.bounded.specs.Causes.{NoneHolds, AllRefuse, firstCause, follows-more, passed, refused-stands}
+use Rattle.bounded.specs.Causes.{NoneHolds, AllRefuse, firstCause, follows-more, by-causes, passed, refused-stands}
 use Rattle.arena_sections.specs.Sections.{greatestLength, zeros, fresh, valid, withTemp, withHead, refusedWith, doneWith, usableLength, openOf, stateCauses, allocationCauses, allocationOf, persistentStart, persistentRoom, persistentDone, persistentOf, tempStart, tempRoom, tempDone, tempOf, resetOf, headCauses, headOf}
 use Rattle.arena_sections.specs.declared.Outcome.{Outcome}
 use Rattle.arena_sections.specs.declared.Sections.{Sections}
@@ -36,41 +37,64 @@ module _ (g start length : ℕ) where
 -- ---- the checks 13 and 14
 
 module _ (g : ℕ) (s : Sections) (a : ℕ) where
+  -- The number that they give.
+  abbrev pub allocationNumber : ℕ
+  allocationNumber = numberOf (allocationOf g s a)
+
   -- The state is not valid, whatever the alignment.
-  pub allocation-not-valid : valid s ≡ false → refusedWith sectionsNotValid s ≡ allocationOf g s a
+  pub allocation-not-valid : valid s ≡ false → sectionsNotValid ≡ allocationNumber
   unfolding allocationOf
   allocation-not-valid v = rw (v, firstCause)
 
   -- The alignment is not allowed.
-  pub allocation-not-allowed : valid s ≡ true → allowed g a ≡ false → refusedWith badAlignment s ≡ allocationOf g s a
+  pub allocation-not-allowed : valid s ≡ true → allowed g a ≡ false → badAlignment ≡ allocationNumber
   unfolding allocationOf
   allocation-not-allowed v w = rw (v, w, firstCause)
 
   -- Both pass.
-  pub allocation-passes : valid s ≡ true → allowed g a ≡ true → doneWith 0 s ≡ allocationOf g s a
+  pub allocation-passes : valid s ≡ true → allowed g a ≡ true → 0 ≡ allocationNumber
   unfolding allocationOf
   allocation-passes v w = rw (v, w, firstCause)
 
-  -- Where they passed, neither holds.
-  pub allocation-passed : numberOf (allocationOf g s a) ≡ 0 → NoneHolds (allocationCauses g s a)
+  -- Where they passed, neither holds,
+  pub allocation-passed : allocationNumber ≡ 0 → NoneHolds (allocationCauses g s a)
   unfolding allocationOf
   allocation-passed e = passed numberOf (allocationCauses g s a) (doneWith 0 s) (omega arith, (omega arith, tt)) e .0
 
+  -- so that the alignment is above 0.
+  pub alignment-some : allocationNumber ≡ 0 → 0 < a
+  alignment-some e = allowed-some g a (allowed-says g a (not-false (allowed g a) (allocation-passed e .1 .0)))
+
+  allocation-refusal : (allocationNumber ≡ 0 → ⊥) → refusedWith allocationNumber s ≡ allocationOf g s a
+  unfolding allocationOf
+  allocation-refusal =
+      by-causes (λ (o : Outcome). (numberOf o ≡ 0 → ⊥) → refusedWith (numberOf o) s ≡ o) (allocationCauses g s a) (doneWith 0 s)
+      ((λ h. refl), ((λ h. refl), tt))
+      (λ n h. absurd (h refl))
+
 -- ---- the allocations
+
+-- What is below the tail, less the gap, is where a persistent allocation starts.
+pub start-by-gap : (s : Sections) (size a : ℕ) → s .tail - size - (s .tail - size) % a ≡ persistentStart s size a
+start-by-gap s size a = omega (arith, down-rest a (s .tail - size))
 
 module _ (g : ℕ) (s : Sections) (size a : ℕ) where
   -- A refusal by 13 or 14 is the persistent allocation's,
-  pub persistent-checked : (numberOf (allocationOf g s a) ≡ 0 → ⊥) → allocationOf g s a ≡ persistentOf g s size a
+  pub persistent-checked : (allocationNumber g s a ≡ 0 → ⊥) → refusedWith (allocationNumber g s a) s ≡ persistentOf g s size a
   unfolding allocationOf persistentOf
-  persistent-checked h = refused-stands numberOf (allocationCauses g s a) (persistentRoom s size a) (doneWith 0 s) (persistentDone s size a) refl h
+  persistent-checked h =
+      allocation-refusal g s a h
+      ∙ refused-stands numberOf (allocationCauses g s a) (persistentRoom s size a) (doneWith 0 s) (persistentDone s size a) refl h
 
   -- and the temporary one's.
-  pub temp-checked : (numberOf (allocationOf g s a) ≡ 0 → ⊥) → allocationOf g s a ≡ tempOf g s size a
+  pub temp-checked : (allocationNumber g s a ≡ 0 → ⊥) → refusedWith (allocationNumber g s a) s ≡ tempOf g s size a
   unfolding allocationOf tempOf
-  temp-checked h = refused-stands numberOf (allocationCauses g s a) (tempRoom s size a) (doneWith 0 s) (tempDone s size a) refl h
+  temp-checked h =
+      allocation-refusal g s a h
+      ∙ refused-stands numberOf (allocationCauses g s a) (tempRoom s size a) (doneWith 0 s) (tempDone s size a) refl h
 
   -- Past them the room decides.
-  module _ (p : numberOf (allocationOf g s a) ≡ 0) where
+  module _ (p : allocationNumber g s a ≡ 0) where
     persistent-decides : firstCause (persistentRoom s size a) (persistentDone s size a) ≡ persistentOf g s size a
     unfolding persistentOf
     persistent-decides = sym (follows-more (allocationCauses g s a) (persistentRoom s size a) (persistentDone s size a) (allocation-passed g s a p))

@@ -65,12 +65,13 @@ impl Sections {
         ensures { λ r. ⌜ r ≡ openOf baseAlignment start length ⌝ }
     {
         let lost = alignment::bytes_lost(Sections::BASE_ALIGNMENT, start) as u64;
+        let zeros = Sections::fresh(0);
         if length < lost {
-            return Outcome::refused(Answer::SECTIONS_NOT_VALID, Sections::fresh(0));
+            return Outcome::refused(Answer::SECTIONS_NOT_VALID, zeros);
         }
         let usable = length - lost;
         if (Sections::GREATEST_LENGTH as u64) < usable {
-            return Outcome::refused(Answer::SECTIONS_NOT_VALID, Sections::fresh(0));
+            return Outcome::refused(Answer::SECTIONS_NOT_VALID, zeros);
         }
         Outcome::done(0, Sections::fresh(usable as u32))
     }
@@ -83,46 +84,51 @@ impl Sections {
         temporaries & ((self.tail <= self.usable) & (self.usable <= Sections::GREATEST_LENGTH))
     }
 
-    // The checks 13 and 14, with which both allocations begin; done, with the same state, where both pass.
-    fn check_allocation(self, alignment: u32) -> Outcome
-        ensures { λ r. ⌜ r ≡ allocationOf baseAlignment self alignment ⌝ }
+    // The checks 13 and 14, with which both allocations begin: the number of the first that fails, or done. Each is known before the first is told, so
+    // that their order can be read off.
+    fn check_allocation(self, alignment: u32) -> u32
+        ensures { λ r. ⌜ r ≡ allocationOf baseAlignment self alignment .answer .number ⌝ }
     {
-        if !self.is_valid() {
-            return Outcome::refused(Answer::SECTIONS_NOT_VALID, self);
+        let valid = self.is_valid();
+        let allowed = alignment::is_allowed(Sections::BASE_ALIGNMENT, alignment);
+        if !valid {
+            return Answer::SECTIONS_NOT_VALID;
         }
-        if !alignment::is_allowed(Sections::BASE_ALIGNMENT, alignment) {
-            return Outcome::refused(Answer::BAD_ALIGNMENT, self);
+        if !allowed {
+            return Answer::BAD_ALIGNMENT;
         }
-        Outcome::done(0, self)
+        Answer::DONE
     }
 
-    // Document 01's keep: allocates at the tail, for as long as the arena is used. Refused: 13, 14, 15; done: a is the start.
+    // Document 01's keep: allocates at the tail, for as long as the arena is used. Refused: 13, 14, 15; done: a is the start. TensorFlow Lite Micro compares
+    // the start with the head only; here no temporary is ever met.
     pub fn allocate_persistent(self, size: u32, alignment: u32) -> Outcome
         ensures { λ r. ⌜ r ≡ persistentOf baseAlignment self size alignment ⌝ }
     {
-        let checked = self.check_allocation(alignment);
-        if checked.answer.number != Answer::DONE {
-            return checked;
+        let refusal = self.check_allocation(alignment);
+        if refusal != Answer::DONE {
+            return Outcome::refused(refusal, self);
         }
         if self.tail < size {
             return Outcome::refused(Answer::NO_ROOM, self);
         }
-        let start = alignment::round_down(alignment, self.tail - size);
-        if start < self.temp {
-            return Outcome::refused(Answer::NO_ROOM, self);
-        }
+        let gap = (self.tail - size) % alignment;
+        let start = self.tail - size - gap;
         let mut next = self;
         next.tail = start;
-        Outcome::done(start, next)
+        if self.temp <= start {
+            return Outcome::done(start, next);
+        }
+        Outcome::refused(Answer::NO_ROOM, self)
     }
 
     // Document 01's borrow: allocates above the temporaries, until they are reset. Refused: 13, 14, 15; done: a is the start.
     pub fn allocate_temp(self, size: u32, alignment: u32) -> Outcome
         ensures { λ r. ⌜ r ≡ tempOf baseAlignment self size alignment ⌝ }
     {
-        let checked = self.check_allocation(alignment);
-        if checked.answer.number != Answer::DONE {
-            return checked;
+        let refusal = self.check_allocation(alignment);
+        if refusal != Answer::DONE {
+            return Outcome::refused(refusal, self);
         }
         let start = alignment::round_up(alignment, self.temp);
         let end = start + size as u64;

@@ -64,3 +64,5 @@ lowest-bad-spec =
     loop-less
     loop-again
     returns-2)
+
+-- x

@@ -4,39 +4,45 @@ use mathlib.Core.Path.{_≡_, sym, _∙_, ap}
 use native.Mathlib.Omega.{arith}
 use borrow.Author.Needs.{needs}
 use Rattle.alignment.specs.Rounding.{up-most}
-use Rattle.arena_sections.specs.Cases.{numberOf, temp-checked, temp-no-room, temp-room}
-use Rattle.arena_sections.specs.Sections.{baseAlignment, withTemp, doneWith, allocationOf}
+use Rattle.arena_sections.specs.Cases.{allocationNumber, temp-checked, temp-no-room, temp-room}
+use Rattle.arena_sections.specs.Sections.{baseAlignment, withTemp, refusedWith, doneWith}
 use Rattle.arena_sections.proofs.Sections.allocate_temp.Statement.{statement}
 use Rattle.arena_sections.proofs.Sections.allocate_temp.Tie as tie
 
 -- the checks 13 and 14 passed
-checked : (c : tie.Else1) → let a = c .before .before .before .args in numberOf (allocationOf baseAlignment (a .self) (a .alignment)) ≡ 0
-checked c = sym (ap numberOf (c .before .before .check-allocation .ensures)) ∙ c .if1 .left
+checked : (c : tie.Else1) → let a = c .before .before .args in allocationNumber baseAlignment (a .self) (a .alignment) ≡ 0
+checked c = sym (c .before .check-allocation .ensures) ∙ c .if1 .left
 
 check-allocation-requires : tie.Need-check-allocation-requires
 check-allocation-requires c κs = search needs
 
+refused-requires : tie.Need-refused-requires
+refused-requires c κs = search needs
+
 returns : tie.Need-returns
 returns c =
     let e = c .before .before .check-allocation .ensures in
-    e ∙ temp-checked _ _ _ _ (λ z. c .if1 .taken (ap numberOf e ∙ z))
+    let a = c .before .before .before .args in
+    c .refused .ensures
+    ∙ ap (λ (n : ℕ). refusedWith n (a .self)) e
+    ∙ temp-checked _ _ _ _ (λ z. c .before .if1 .taken (e ∙ z))
 
 round-up-requires : tie.Need-round-up-requires
 round-up-requires c κs = search needs
 
 add-end : tie.Need-add-end
-add-end c = let a = c .before .before .before .before .args in omega (arith, c .round-up .ensures, up-most (a .alignment) (a .self .temp))
+add-end c = let a = c .before .before .before .args in omega (arith, c .round-up .ensures, up-most (a .alignment) (a .self .temp))
 
 cast-if2 : tie.Need-cast-if2
 cast-if2 c = search needs
 
-refused-requires : tie.Need-refused-requires
-refused-requires c κs = search needs
+refused-requires-2 : tie.Need-refused-requires-2
+refused-requires-2 c κs = search needs
 
 returns-2 : tie.Need-returns-2
 returns-2 c =
     let u = c .before .before .before in
-    c .refused .ensures ∙ temp-no-room _ _ _ _ (checked (u .before)) (omega (arith, u .round-up .ensures))
+    c .refused2 .ensures ∙ temp-no-room _ _ _ _ (checked (u .before)) (omega (arith, u .round-up .ensures))
 
 cast-next : tie.Need-cast-next
 cast-next c = search needs
@@ -50,7 +56,7 @@ done-requires c κs = search needs
 returns-3 : tie.Need-returns-3
 returns-3 c =
     let u = c .before .before .before in
-    let a = u .before .before .before .before .args in
+    let a = u .before .before .before .args in
     c .done .ensures
     ∙ ap (λ (start : ℕ). doneWith start (withTemp (a .self) (start + a .size))) (u .round-up .ensures)
     ∙ temp-room _ _ _ _ (checked (u .before)) (omega (arith, u .round-up .ensures))
@@ -60,11 +66,12 @@ allocate-temp-spec =
     tie.close
     (tie.spec
     check-allocation-requires
+    refused-requires
     returns
     round-up-requires
     add-end
     cast-if2
-    refused-requires
+    refused-requires-2
     returns-2
     cast-next
     cast-done

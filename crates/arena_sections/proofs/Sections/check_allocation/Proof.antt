@@ -8,46 +8,24 @@ use Rattle.arena_sections.specs.Sections.{valid}
 use Rattle.arena_sections.proofs.Sections.check_allocation.Statement.{statement}
 use Rattle.arena_sections.proofs.Sections.check_allocation.Tie as tie
 
-known : (c : tie.Else1) → valid (c .before .before .args .self) ≡ true
-known c = sym (c .before .is-valid .ensures) ∙ not-false _ (c .if1 .left)
+known : (c : tie.Else1) → valid (c .before .before .before .args .self) ≡ true
+known c = sym (c .before .before .is-valid .ensures) ∙ not-false _ (c .if1 .left)
 
 is-valid-requires : tie.Need-is-valid-requires
 is-valid-requires c κs = search needs
 
-refused-requires : tie.Need-refused-requires
-refused-requires c κs = search needs
-
-returns : tie.Need-returns
-returns c = c .refused .ensures ∙ allocation-not-valid _ _ _ (sym (c .before .before .is-valid .ensures) ∙ not-true _ (c .before .if1 .taken))
-
 is-allowed-requires : tie.Need-is-allowed-requires
 is-allowed-requires c κs = search needs
 
-refused-requires-2 : tie.Need-refused-requires-2
-refused-requires-2 c κs = search needs
+returns : tie.Need-returns
+returns c = allocation-not-valid _ _ _ (sym (c .before .before .is-valid .ensures) ∙ not-true _ (c .if1 .taken))
 
 returns-2 : tie.Need-returns-2
-returns-2 c =
-    let u = c .before .before in
-    c .refused2 .ensures ∙ allocation-not-allowed _ _ _ (known (u .before)) (sym (u .is-allowed .ensures) ∙ not-true _ (c .before .if2 .taken))
-
-done-requires : tie.Need-done-requires
-done-requires c κs = search needs
+returns-2 c = allocation-not-allowed _ _ _ (known (c .before)) (sym (c .before .before .is-allowed .ensures) ∙ not-true _ (c .if2 .taken))
 
 returns-3 : tie.Need-returns-3
-returns-3 c =
-    let u = c .before .before in
-    c .done .ensures ∙ allocation-passes _ _ _ (known (u .before)) (sym (u .is-allowed .ensures) ∙ not-false _ (c .before .if2 .left))
+returns-3 c = allocation-passes _ _ _ (known (c .before)) (sym (c .before .before .is-allowed .ensures) ∙ not-false _ (c .if2 .left))
 
 pub check-allocation-spec : {M : Type 1} → statement M
 check-allocation-spec =
-    tie.close
-    (tie.spec
-    is-valid-requires
-    refused-requires
-    returns
-    is-allowed-requires
-    refused-requires-2
-    returns-2
-    done-requires
-    returns-3)
+    tie.close (tie.spec is-valid-requires is-allowed-requires returns returns-2 returns-3)

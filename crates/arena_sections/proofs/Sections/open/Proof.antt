@@ -23,38 +23,36 @@ refused-requires c κs = search needs
 
 returns : tie.Need-returns
 returns c =
-    let lost = c .before .before .before .bytes-lost .ensures in
-    c .refused .ensures ∙ ap (refusedWith sectionsNotValid) (c .before .fresh .ensures) ∙ open-short _ _ _ (omega (arith, lost))
+    let u = c .before .before in
+    c .refused .ensures ∙ ap (refusedWith sectionsNotValid) (u .fresh .ensures) ∙ open-short _ _ _ (omega (arith, u .before .bytes-lost .ensures))
 
 cast-if2 : tie.Need-cast-if2
 cast-if2 c = search needs
-
-fresh-requires-2 : tie.Need-fresh-requires-2
-fresh-requires-2 c κs = search needs
 
 refused-requires-2 : tie.Need-refused-requires-2
 refused-requires-2 c κs = search needs
 
 returns-2 : tie.Need-returns-2
 returns-2 c =
-    let lost = c .before .before .before .before .bytes-lost .ensures in
-    c .refused2 .ensures ∙ ap (refusedWith sectionsNotValid) (c .before .fresh2 .ensures) ∙ open-long _ _ _ (omega (arith, lost)) (omega (arith, lost))
+    let u = c .before .before .before in
+    let lost = u .before .bytes-lost .ensures in
+    c .refused2 .ensures ∙ ap (refusedWith sectionsNotValid) (u .fresh .ensures) ∙ open-long _ _ _ (omega (arith, lost)) (omega (arith, lost))
 
 cast-fresh : tie.Need-cast-fresh
 cast-fresh c = search needs
 
-fresh-requires-3 : tie.Need-fresh-requires-3
-fresh-requires-3 c κs = search needs
+fresh-requires-2 : tie.Need-fresh-requires-2
+fresh-requires-2 c κs = search needs
 
 done-requires : tie.Need-done-requires
 done-requires c κs = search needs
 
 returns-3 : tie.Need-returns-3
 returns-3 c =
-    let u = c .before .before .before .before in
+    let u = c .before .before .before .before .before in
     let lost = u .bytes-lost .ensures in
     c .done .ensures
-    ∙ ap (doneWith 0) (c .before .fresh3 .ensures ∙ ap (λ (n : ℕ). fresh (u .before .args .length - n)) lost)
+    ∙ ap (doneWith 0) (c .before .fresh2 .ensures ∙ ap (λ (n : ℕ). fresh (u .before .args .length - n)) lost)
     ∙ open-done _ _ _ (omega (arith, lost)) (omega (arith, lost))
 
 pub open-spec : {M : Type 1} → statement M
@@ -67,10 +65,9 @@ open-spec =
     refused-requires
     returns
     cast-if2
-    fresh-requires-2
     refused-requires-2
     returns-2
     cast-fresh
-    fresh-requires-3
+    fresh-requires-2
     done-requires
     returns-3)
