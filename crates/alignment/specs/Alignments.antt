@@ -2,13 +2,14 @@
 -- the grid, which is 16 in document 01.
 use Prim.Native.Nat.{ℕ, zero, suc, _+_, _-_, _*_, _/_, _%_, _^_, _<_, _≤_}
 use mathlib.Core.Bool.{Bool, true, _&&_}
-use mathlib.Core.Logic.{_⊎_, inl, inr, _↔_}
+use mathlib.Core.Logic.{_⊎_, inl, inr, ⊎-elim, _↔_}
 use mathlib.Core.Path.{_≡_, _∙_, ap}
 use native.Mathlib.Nat.{div-add-mod', mod-lt, mod-eq-of-lt, mod-self, mul-mod-left, sub-zero, one-le-pow}
 use native.Mathlib.Omega.{arith}
 use borrow.Author.Tests.{leb-true, le-leb}
 use lib.Dec.{leb}
 use Rattle.bounded.specs.Boolean.{both, both-hold, lt-or-le}
+use Rattle.alignment.specs.Rounding.{multiples-apart}
 use Rattle.alignment.specs.Powers.{isPowerOfTwo, PowerOfTwo, power-says, power-of, power-some}
 
 -- "Opening at start s with length L loses (16 − s mod 16) mod 16 bytes".
@@ -63,12 +64,11 @@ allowed-at-16 a = (λ p. one-of (p .power .exponent) (p .power .is) (p .within),
 -- ---- the loss
 
 module _ (g start : ℕ) where
-  -- Less than the grid is lost,
-  pub loss-less : 0 < g → loss g start < g
+  loss-less : 0 < g → loss g start < g
   unfolding loss
   loss-less h = mod-lt (g - start % g) h
 
-  -- and what follows starts on it.
+  -- Behind what is lost the next multiple starts,
   pub loss-reaches : 0 < g → (start + loss g start) % g ≡ 0
   unfolding loss
   loss-reaches h = go (lt-or-le 0 (start % g))
@@ -82,3 +82,11 @@ module _ (g start : ℕ) where
           let m : (g - start % g) % g ≡ 0 = rw (z, sub-zero) (mod-self g) in
           let e : start + (g - start % g) % g ≡ start = omega (arith, m) in
           ap (λ (n : ℕ). n % g) e ∙ z
+
+  -- and losing less would not reach one.
+  pub loss-least : 0 < g → (other : ℕ) → (start + other) % g ≡ 0 → loss g start ≤ other
+  loss-least h other e =
+      ⊎-elim
+      (λ x. omega (arith, loss-less h, multiples-apart g (start + other) (start + loss g start) e (loss-reaches h) (omega arith)))
+      (λ x. x)
+      (lt-or-le other (loss g start))

@@ -3,9 +3,11 @@
 --     roundedDown g n    the greatest multiple of g that is at most n
 -- A reader believes them by the laws below, for any g above 0. No number is a multiple of 0 but 0, and rounding to it gives 0.
 use Prim.Native.Nat.{ℕ, zero, suc, _+_, _-_, _*_, _/_, _%_, _<_, _≤_}
+use mathlib.Core.Logic.{⊎-elim}
 use mathlib.Core.Path.{_≡_, _∙_}
-use native.Mathlib.Nat.{div-add-mod', mod-lt, mul-mod-left, mul-zero, zero-mul, div-eq-of-lt, div-mul-le-self, add-mul-mod-self-right}
+use native.Mathlib.Nat.{div-add-mod', mod-lt, mul-mod-left, mul-zero, zero-mul, div-eq-of-lt, div-mul-le-self, add-mul-mod-self-right, suc-mul, mul-le-mul-right, lt-of-mul-lt-mul-right}
 use native.Mathlib.Omega.{arith}
+use Rattle.bounded.specs.Boolean.{lt-or-le}
 
 -- The number rounded up to a multiple of g.
 unfoldable pub roundedUp : ℕ → ℕ → ℕ
@@ -14,6 +16,12 @@ roundedUp g n = (n + (g - 1)) / g * g
 -- The number rounded down to a multiple of g.
 unfoldable pub roundedDown : ℕ → ℕ → ℕ
 roundedDown g n = n / g * g
+
+-- Two multiples are at least one step apart.
+pub multiples-apart : (g m n : ℕ) → m % g ≡ 0 → n % g ≡ 0 → m < n → m + g ≤ n
+multiples-apart g m n p q l =
+    let x : m / g * g < n / g * g = omega (arith, div-add-mod' m g, div-add-mod' n g) in
+    omega (arith, div-add-mod' m g, div-add-mod' n g, suc-mul (m / g) g, mul-le-mul-right g (lt-of-mul-lt-mul-right g x))
 
 -- ---- up
 
@@ -28,10 +36,13 @@ module _ (g n : ℕ) where
   unfolding roundedUp
   up-holds h = omega (arith, div-add-mod' (n + (g - 1)) g, mod-lt (n + (g - 1)) h)
 
-  -- No lower multiple is: it is less than one step above.
-  pub up-least : 0 < g → roundedUp g n < n + g
+  up-close : 0 < g → roundedUp g n < n + g
   unfolding roundedUp
-  up-least h = omega (arith, div-add-mod' (n + (g - 1)) g)
+  up-close h = omega (arith, div-add-mod' (n + (g - 1)) g)
+
+  -- No lower multiple is.
+  pub up-least : 0 < g → (m : ℕ) → m % g ≡ 0 → n ≤ m → roundedUp g n ≤ m
+  up-least h m e l = ⊎-elim (λ x. omega (arith, up-close h, multiples-apart g m (roundedUp g n) e up-multiple x)) (λ x. x) (lt-or-le m (roundedUp g n))
 
   -- It passes the number by no more than g, whatever g is.
   pub up-most : roundedUp g n ≤ n + g
@@ -70,6 +81,10 @@ module _ (g n : ℕ) where
   pub down-within : roundedDown g n ≤ n
   down-within = omega (arith, down-rest)
 
-  -- No higher multiple is: one step more is above the number.
-  pub down-greatest : 0 < g → n < roundedDown g n + g
-  down-greatest h = omega (arith, down-rest, mod-lt n h)
+  -- No higher multiple is.
+  pub down-greatest : 0 < g → (m : ℕ) → m % g ≡ 0 → m ≤ n → m ≤ roundedDown g n
+  down-greatest h m e l =
+      ⊎-elim
+      (λ x. omega (arith, down-rest, mod-lt n h, multiples-apart g (roundedDown g n) m down-multiple e x))
+      (λ x. x)
+      (lt-or-le (roundedDown g n) m)

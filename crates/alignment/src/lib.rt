@@ -19,7 +19,7 @@ pub fn bytes_lost(grid: u32, start: u64) -> u32
     ensures { λ r. ⌜ r ≡ loss grid start ⌝ }
 {
     if grid == 0 {
-        return 0;
+        return 0u32;
     }
     let over = (start % grid as u64) as u32;
     (grid - over) % grid

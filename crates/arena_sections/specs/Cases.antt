@@ -1,6 +1,8 @@
--- The outcomes as the code comes to them, cause after cause.
+-- The outcomes as the code comes to them, cause after cause. This file stands behind the law of histories, so that a definition that breaks the law is
+-- refused by the law before any code is.
 use Prim.Native.Nat.{ℕ, _+_, _-_, _%_, _<_, _≤_}
 use mathlib.Core.Bool.{true, false}
+use mathlib.Core.Logic.{inl, inr}
 use mathlib.Core.Path.{_≡_, refl, sym, _∙_}
 use native.Mathlib.Omega.{arith}
 use borrow.Author.Tests.{lt-ltb, le-ltb, ne-eqb, eq-eqb, not-false}
@@ -8,6 +10,8 @@ use Rattle.alignment.specs.Alignments.{loss, allowed, allowed-says, allowed-som
 use Rattle.alignment.specs.Rounding.{down-rest}
 use Rattle.answer.specs.Answer.{sectionsNotValid, badAlignment, noRoom, temporariesOut, headMadeSmaller}
 use Rattle.bounded.specs.Causes.{NoneHolds, AllRefuse, firstCause, follows-more, by-causes, passed, refused-stands}
+use Rattle.arena_sections.specs.Room.{not-usable-of, usable-of, full-of, room-of, temp-full-of, temp-room-of}
+use Rattle.arena_sections.specs.SoundHistory as SoundHistory
 use Rattle.arena_sections.specs.Sections.{greatestLength, zeros, fresh, valid, withTemp, withHead, refusedWith, doneWith, usableLength, openOf, stateCauses, allocationCauses, allocationOf, persistentStart, persistentRoom, persistentDone, persistentOf, tempStart, tempRoom, tempDone, tempOf, resetOf, headCauses, headOf}
 use Rattle.arena_sections.specs.declared.Outcome.{Outcome}
 use Rattle.arena_sections.specs.declared.Sections.{Sections}
@@ -22,17 +26,17 @@ module _ (g start length : ℕ) where
   -- Shorter than what is lost.
   pub open-short : length < loss g start → refusedWith sectionsNotValid zeros ≡ openOf g start length
   unfolding openOf
-  open-short l = rw (lt-ltb _ _ l, firstCause)
+  open-short l = rw (not-usable-of g start length (inl l), firstCause)
 
   -- Too long.
   pub open-long : loss g start ≤ length → greatestLength < usableLength g start length → refusedWith sectionsNotValid zeros ≡ openOf g start length
   unfolding openOf
-  open-long l m = rw (le-ltb _ _ l, lt-ltb _ _ m, firstCause)
+  open-long l m = rw (not-usable-of g start length (inr m), firstCause)
 
   -- Opened.
   pub open-done : loss g start ≤ length → usableLength g start length ≤ greatestLength → doneWith 0 (fresh (usableLength g start length)) ≡ openOf g start length
   unfolding openOf
-  open-done l m = rw (le-ltb _ _ l, le-ltb _ _ m, firstCause)
+  open-done l m = rw (usable-of g start length l m, firstCause)
 
 -- ---- the checks 13 and 14
 
@@ -105,23 +109,23 @@ module _ (g : ℕ) (s : Sections) (size a : ℕ) where
 
     -- More than all that is below the tail.
     pub persistent-too-large : s .tail < size → refusedWith noRoom s ≡ persistentOf g s size a
-    persistent-too-large l = (rw (lt-ltb _ _ l, firstCause)) ∙ persistent-decides
+    persistent-too-large l = (rw (full-of s size a (inl l), firstCause)) ∙ persistent-decides
 
     -- Into the temporaries.
     pub persistent-no-room : size ≤ s .tail → persistentStart s size a < s .temp → refusedWith noRoom s ≡ persistentOf g s size a
-    persistent-no-room l m = (rw (le-ltb _ _ l, lt-ltb _ _ m, firstCause)) ∙ persistent-decides
+    persistent-no-room l m = (rw (full-of s size a (inr m), firstCause)) ∙ persistent-decides
 
     -- There is room.
     pub persistent-room : size ≤ s .tail → s .temp ≤ persistentStart s size a → persistentDone s size a ≡ persistentOf g s size a
-    persistent-room l m = (rw (le-ltb _ _ l, le-ltb _ _ m, firstCause)) ∙ persistent-decides
+    persistent-room l m = (rw (room-of s size a l m, firstCause)) ∙ persistent-decides
 
     -- Into persistent memory.
     pub temp-no-room : s .tail < tempStart s a + size → refusedWith noRoom s ≡ tempOf g s size a
-    temp-no-room l = (rw (lt-ltb _ _ l, firstCause)) ∙ temp-decides
+    temp-no-room l = (rw (temp-full-of s size a l, firstCause)) ∙ temp-decides
 
     -- There is room.
     pub temp-room : tempStart s a + size ≤ s .tail → tempDone s size a ≡ tempOf g s size a
-    temp-room l = (rw (le-ltb _ _ l, firstCause)) ∙ temp-decides
+    temp-room l = (rw (temp-room-of s size a l, firstCause)) ∙ temp-decides
 
 -- ---- the reset, and setting the head
 

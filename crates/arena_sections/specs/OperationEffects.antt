@@ -1,19 +1,18 @@
 -- Which effect each operation has: a refusal none, an accepted one its own, with what the effect must meet.
-use Prim.Native.Nat.{ℕ, _+_, _-_, _%_, _≤_}
-use mathlib.Core.Bool.{false, not}
+use Prim.Native.Nat.{ℕ, _-_}
 use mathlib.Core.List.{_++_}
 use mathlib.Core.Path.{_≡_, refl}
 use native.Mathlib.Omega.{arith}
 use borrow.Author.Tests.{ltb-false, eqb-true, not-false}
-use lib.Dec.{ltb, eqb}
+use lib.Dec.{eqb}
 use Rattle.alignment.specs.Alignments.{allowed, allowed-says, allowed-some}
 use Rattle.alignment.specs.Rounding.{down-rest, up-holds}
-use Rattle.bounded.specs.Boolean.{neither}
 use Rattle.bounded.specs.Causes.{by-causes}
 use Rattle.arena_sections.specs.Effects.{Does}
 use Rattle.arena_sections.specs.History.{Operation, outcomeOf, effectOf}
 use Rattle.arena_sections.specs.History.Operation.{allocatePersistent, allocateTemp, resetTemp, setHead}
-use Rattle.arena_sections.specs.Sections.{stateCauses, allocationCauses, persistentStart, persistentRoom, persistentDone, persistentOf, tempRoom, tempDone, tempOf, resetOf, headCauses, headOf, doneWith, withTemp, withHead}
+use Rattle.arena_sections.specs.Room.{room-says, temp-room-says}
+use Rattle.arena_sections.specs.Sections.{stateCauses, allocationCauses, persistentRoom, persistentDone, persistentOf, tempRoom, tempDone, tempOf, resetOf, headCauses, headOf, doneWith, withTemp, withHead}
 use Rattle.arena_sections.specs.declared.Outcome.{Outcome}
 use Rattle.arena_sections.specs.declared.Sections.{Sections}
 
@@ -27,10 +26,8 @@ module _ (g : ℕ) (s : Sections) where
   persistent-effect size a =
       by-causes (HasEffect (allocatePersistent size a)) (allocationCauses g s a ++ persistentRoom s size a) (persistentDone s size a) (refl, (refl, (refl, tt)))
       (λ n.
-      let x = neither (ltb (s .tail) size) (ltb (persistentStart s size a) (s .temp)) (n .1 .1 .0) in
-      let small : size ≤ s .tail = ltb-false _ _ (x .0) in
-      let room : s .temp ≤ persistentStart s size a = ltb-false _ _ (x .1) in
-      (refl, room, omega (arith, down-rest a (s .tail - size))))
+      let room = room-says s size a (n .1 .1 .0) in
+      (refl, room .1, omega (arith, room .0, down-rest a (s .tail - size))))
 
   temp-effect : (size a : ℕ) → HasEffect (allocateTemp size a) (tempOf g s size a)
   unfolding tempOf
@@ -38,7 +35,7 @@ module _ (g : ℕ) (s : Sections) where
       by-causes (HasEffect (allocateTemp size a)) (allocationCauses g s a ++ tempRoom s size a) (tempDone s size a) (refl, (refl, (refl, tt)))
       (λ n.
       let p = allowed-says g a (not-false (allowed g a) (n .1 .0)) in
-      (refl, up-holds a (s .temp) (allowed-some g a p), ltb-false _ _ (n .1 .1 .0)))
+      (refl, up-holds a (s .temp) (allowed-some g a p), temp-room-says s size a (n .1 .1 .0)))
 
   reset-effect : HasEffect resetTemp (resetOf s)
   unfolding resetOf

@@ -67,11 +67,13 @@ doneWith start s = record { answer = A.doneAt start; sections = s }
 abbrev pub usableLength : ℕ → ℕ → ℕ → ℕ
 usableLength g start length = length - loss g start
 
--- "Number 13 if L is below the loss or the usable length is above 16,777,216; a refused opening hands back a state of zeros."
+-- "Number 13 if L is below the loss or the usable length is above 16,777,216".
+unfoldable pub notUsable : ℕ → ℕ → ℕ → Bool
+notUsable g start length = ltb length (loss g start) || ltb greatestLength (usableLength g start length)
+
+-- 13: "a refused opening hands back a state of zeros".
 abbrev pub openCauses : ℕ → ℕ → ℕ → List (Cause Outcome)
-openCauses g start length =
-    (ltb length (loss g start) || ltb greatestLength (usableLength g start length) ⇒ refusedWith A.sectionsNotValid zeros)
-    ∷ []
+openCauses g start length = (notUsable g start length ⇒ refusedWith A.sectionsNotValid zeros) ∷ []
 
 -- An arena at a start with a length.
 unfoldable pub openOf : ℕ → ℕ → ℕ → Outcome
@@ -96,8 +98,12 @@ abbrev pub persistentStart : Sections → ℕ → ℕ → ℕ
 persistentStart s size alignment = roundedDown alignment (s .tail - size)
 
 -- "15 exactly if size > tail or start < temp."
+unfoldable pub persistentFull : Sections → ℕ → ℕ → Bool
+persistentFull s size alignment = ltb (s .tail) size || ltb (persistentStart s size alignment) (s .temp)
+
+-- 15.
 abbrev pub persistentRoom : Sections → ℕ → ℕ → List (Cause Outcome)
-persistentRoom s size alignment = (ltb (s .tail) size || ltb (persistentStart s size alignment) (s .temp) ⇒ refusedWith A.noRoom s) ∷ []
+persistentRoom s size alignment = (persistentFull s size alignment ⇒ refusedWith A.noRoom s) ∷ []
 
 -- "it becomes the tail".
 abbrev pub persistentDone : Sections → ℕ → ℕ → Outcome
@@ -112,8 +118,12 @@ abbrev pub tempStart : Sections → ℕ → ℕ
 tempStart s alignment = roundedUp alignment (s .temp)
 
 -- "15 exactly if that exceeds tail": start + size.
+unfoldable pub tempFull : Sections → ℕ → ℕ → Bool
+tempFull s size alignment = ltb (s .tail) (tempStart s alignment + size)
+
+-- 15.
 abbrev pub tempRoom : Sections → ℕ → ℕ → List (Cause Outcome)
-tempRoom s size alignment = (ltb (s .tail) (tempStart s alignment + size) ⇒ refusedWith A.noRoom s) ∷ []
+tempRoom s size alignment = (tempFull s size alignment ⇒ refusedWith A.noRoom s) ∷ []
 
 -- "start + size becomes temp".
 abbrev pub tempDone : Sections → ℕ → ℕ → Outcome

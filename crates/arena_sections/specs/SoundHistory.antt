@@ -5,18 +5,15 @@ use Prim.Native.Nat.{ℕ, _+_}
 use mathlib.Core.List.{List, [], _∷_}
 use mathlib.Core.Path.{_≡_}
 use native.Mathlib.Omega.{arith}
-use borrow.Author.Tests.{ltb-false}
-use lib.Dec.{ltb}
 use lib.ListN.{take}
-use Rattle.alignment.specs.Alignments.{loss}
 use Rattle.answer.specs.Answer.{done}
-use Rattle.bounded.specs.Boolean.{neither}
 use Rattle.bounded.specs.Causes.{by-causes}
 use Rattle.arena_sections.specs.Effects.{Each, EachTwo, Has, Apart, Inside, KeptApart, KeptInside, noSpan, noKept, tempBy, Books, goes-on, begins}
 use Rattle.arena_sections.specs.History.{Operation, Span, Kept, Held, outcomeOf, after, events, used, tailBy, effectOf, heldAfter, nothingHeld, opened, stateAfter, held}
 use Rattle.arena_sections.specs.OperationEffects.{has-effect}
 use Rattle.arena_sections.specs.Ordered.{Ordered}
-use Rattle.arena_sections.specs.Sections.{greatestLength, fresh, doneWith, usableLength, openCauses, openOf}
+use Rattle.arena_sections.specs.Room.{usable-says}
+use Rattle.arena_sections.specs.Sections.{fresh, doneWith, usableLength, openCauses, openOf}
 use Rattle.arena_sections.specs.declared.Outcome.{Outcome}
 use Rattle.arena_sections.specs.declared.Sections.{Sections}
 
@@ -63,7 +60,7 @@ opening-begins g start len =
     by-causes (λ (o : Outcome). o .answer .number ≡ done → Books (o .sections .usable) (o .sections) nothingHeld)
     (openCauses g start len) (doneWith 0 (fresh (usableLength g start len)))
     ((λ e. absurd (omega arith)), tt)
-    (λ n e. begins (usableLength g start len) (ltb-false _ _ (neither (ltb len (loss g start)) (ltb greatestLength (usableLength g start len)) (n .0) .1)))
+    (λ n e. begins (usableLength g start len) (usable-says g start len (n .0) .1))
 
 -- Every history is sound, from an accepted opening on.
 pub sound-history : (g start len : ℕ) (ops : List Operation) → openOf g start len .answer .number ≡ done → SoundHistory g start len ops

@@ -2,7 +2,18 @@
 // back beside the answer. Any state may be handed in: one that is not valid is refused by number 13, and a refusal hands the same state back.
 ghost use mathlib.Core.Path.{_≡_};
 ghost use Rattle.arena_sections.specs.Sections.{
-    baseAlignment, fresh as freshState, valid, refusedWith, doneWith, openOf, allocationOf, persistentOf, tempOf, resetOf, headOf};
+  baseAlignment,
+  fresh as freshState,
+  valid,
+  refusedWith,
+  doneWith,
+  openOf,
+  allocationOf,
+  persistentOf,
+  tempOf,
+  resetOf,
+  headOf,
+};
 use answer::Answer;
 
 // Where the sections end. In a valid state head ≤ temp ≤ tail ≤ usable ≤ GREATEST_LENGTH.

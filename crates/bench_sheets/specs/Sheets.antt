@@ -6,9 +6,15 @@ use mathlib.Core.List.{List, [], _∷_, _++_, map}
 use mathlib.Core.Path.{_≡_, refl}
 use lib.IntN.{ℤ, pos, negsuc}
 use lib.ListN.{length}
-use Rattle.alignment.specs.Rounding.{roundedUp}
-use Rattle.answer.specs.Answer.{doneWith, refusedPair, refusedNeed, fixedRowsCollide, needExceedsSpace}
+use Rattle.alignment.specs.Alignments.{loss, allowed}
+use Rattle.alignment.specs.Powers.{isPowerOfTwo}
+use Rattle.alignment.specs.Rounding.{roundedUp, roundedDown}
+use Rattle.answer.specs.Answer.{doneWith, doneAt, refused, refusedPair, refusedNeed, fixedRowsCollide, needExceedsSpace, noRoom, temporariesOut}
 use Rattle.answer.specs.declared.Answer.{Answer}
+use Rattle.arena_sections.specs.History.{Operation, outcomeOf, after}
+use Rattle.arena_sections.specs.History.Operation.{allocatePersistent, allocateTemp, setHead}
+use Rattle.arena_sections.specs.Sections.{baseAlignment, valid, notUsable, openOf, persistentFull, persistentOf, tempFull, tempOf, headOf}
+use Rattle.arena_sections.specs.declared.Outcome.{Outcome}
 use Rattle.bounded.specs.Count.{one, count}
 use Rattle.bounded.specs.First.{firstFrom, firstIn, holdsBelow}
 use Rattle.bounded.specs.Greatest.{greatest}
@@ -100,13 +106,45 @@ planner-sheets =
     ∷ planned (row 0 0 0 (pos 48)) 1024 two-entries (doneWith 0) (pos 48 ∷ one-entry)
     ∷ []
 
+-- ---- the sections' sheet
+
+-- What an operation answers and the state that it hands back, and the answer and words that are wanted.
+abbrev operated : Outcome → Answer → List ℤ → Sheet
+operated o answer words =
+    let s = o .sections in
+    record {
+      given = record { answer = o .answer; words = pos (s .head) ∷ pos (s .temp) ∷ pos (s .tail) ∷ pos (s .usable) ∷ [] };
+      wanted = record { answer = answer; words = words };
+    }
+
+-- Start 1003, length 2,048.
+abbrev arena : Outcome
+arena = openOf baseAlignment 1003 2048
+
+-- An operation after others in that arena.
+abbrev later : List Operation → Operation → Outcome
+later before op = outcomeOf baseAlignment (after baseAlignment (arena .sections) before) op
+
+abbrev keep : ℕ → ℕ → Operation
+keep size alignment = allocatePersistent size alignment
+
+abbrev section-sheet : List Sheet
+section-sheet =
+    operated arena (doneAt 0) (pos 0 ∷ pos 0 ∷ pos 2043 ∷ pos 2043 ∷ [])
+    ∷ operated (later [] (keep 10 8)) (doneAt 2032) (pos 0 ∷ pos 0 ∷ pos 2032 ∷ pos 2043 ∷ [])
+    ∷ operated (later (keep 10 8 ∷ []) (allocateTemp 20 16)) (doneAt 0) (pos 0 ∷ pos 20 ∷ pos 2032 ∷ pos 2043 ∷ [])
+    ∷ operated (later (keep 10 8 ∷ allocateTemp 20 16 ∷ []) (keep 2013 1)) (refused noRoom) (pos 0 ∷ pos 20 ∷ pos 2032 ∷ pos 2043 ∷ [])
+    ∷ operated (later (keep 10 8 ∷ allocateTemp 20 16 ∷ keep 2013 1 ∷ []) (keep 2012 1)) (doneAt 20) (pos 0 ∷ pos 20 ∷ pos 20 ∷ pos 2043 ∷ [])
+    ∷ operated (later (keep 10 8 ∷ allocateTemp 20 16 ∷ keep 2013 1 ∷ keep 2012 1 ∷ []) (setHead 64)) (refused temporariesOut) (pos 0 ∷ pos 20 ∷ pos 20 ∷ pos 2043 ∷ [])
+    ∷ []
+
 -- ---- the table
 
 -- Every starred sheet.
 abbrev pub sheets : List Sheet
-sheets = planner-sheets
+sheets = planner-sheets ++ section-sheet
 
 -- The two columns are equal.
 pub sheets-hold : map (λ (s : Sheet). s .given) sheets ≡ map (λ (s : Sheet). s .wanted) sheets
-unfolding one count firstFrom firstIn holdsBelow greatest listFrom rank atRank inOrder partner hasPartner pairBelow pairFirst pairSecond replaced natural isMinusOne roundedUp liveTogether shareByte collides endOrZero need request good put free top lowest offsetFor placing place largerFirst fixedRows greedyOrder greedyPlan fixedCollide greedyNeed planOf plannedTable
+unfolding one count firstFrom firstIn holdsBelow greatest listFrom rank atRank inOrder partner hasPartner pairBelow pairFirst pairSecond replaced natural isMinusOne roundedUp roundedDown isPowerOfTwo loss allowed liveTogether shareByte collides endOrZero need request good put free top lowest offsetFor placing place largerFirst fixedRows greedyOrder greedyPlan fixedCollide greedyNeed planOf plannedTable valid notUsable openOf persistentFull persistentOf tempFull tempOf headOf after
 sheets-hold = refl

@@ -3,9 +3,12 @@
 ghost use Prim.Native.Nat.{_≤_};
 ghost use mathlib.Core.Path.{_≡_};
 ghost use lib.ListN.{length};
+use crate::number;
 use crate::print;
 use crate::read;
 use crate::text;
+use arena_sections::Outcome;
+use arena_sections::Sections;
 
 // The tables hold a little more than the most that is allowed, so that a vector can pass each limit.
 const REQUEST_WORDS: usize = 1032;
@@ -108,4 +111,52 @@ pub(crate) fn run(body: &[u8]) -> bool {
     let words = rows.count;
     let count = proposal.count;
     run_script(body, &requests[..words], space.value, &offsets[..count])
+}
+
+// Start; length.
+pub(crate) fn open(body: &[u8]) -> bool {
+    let start = read::long(body, 0);
+    let length = read::long(body, 1);
+    let numbers = (start < number::TOO_LARGE) & (length < number::TOO_LARGE);
+    let good = (text::field_count(body) == 2) & numbers;
+    if !good {
+        return false;
+    }
+    print::outcome(Sections::open(start, length));
+    true
+}
+
+// Whether the name is that of an operation on the sections.
+fn is_operation(name: &[u8]) -> bool {
+    let allocates = check::same(name, b"allocate_persistent") | check::same(name, b"allocate_temp");
+    allocates | (check::same(name, b"reset_temp") | check::same(name, b"set_head"))
+}
+
+// What the operation answers and hands back.
+fn outcome_of(name: &[u8], sections: Sections, first: u32, second: u32) -> Outcome {
+    if check::same(name, b"allocate_persistent") {
+        return sections.allocate_persistent(first, second);
+    }
+    if check::same(name, b"allocate_temp") {
+        return sections.allocate_temp(first, second);
+    }
+    if check::same(name, b"reset_temp") {
+        return sections.reset_temp();
+    }
+    sections.set_head(first)
+}
+
+// Head; temp; tail; usable; and two arguments, of which the reset takes none and setting the head one.
+pub(crate) fn operate(name: &[u8], body: &[u8]) -> bool {
+    let given = read::sections(body);
+    let first = read::number(body, 4);
+    let second = read::number(body, 5);
+    let numbers = given.good & (first.good & second.good);
+    let good = (is_operation(name) & (text::field_count(body) == 6)) & numbers;
+    if !good {
+        return false;
+    }
+    let sections = given.sections;
+    print::outcome(outcome_of(name, sections, first.value, second.value));
+    true
 }

@@ -25,7 +25,10 @@ fn call(line: &[u8], label: &[u8]) -> bool {
     if check::same(name, b"run") {
         return calls::run(body);
     }
-    false
+    if check::same(name, b"open") {
+        return calls::open(body);
+    }
+    calls::operate(name, body)
 }
 
 // A vector's line of output. Headings and empty lines have none.

@@ -1,7 +1,8 @@
 // A single number, spelled by digits and, where it may be negative, a sign before them.
 
-// What stands for a number that cannot be read: it is above every range, so that a test of the range refuses it too.
-pub const TOO_LARGE: u64 = 4294967296;
+// What stands for a number that cannot be read: it is above every range, so that a test of the range refuses it too. Of the numbers of 64 bits it is the
+// one that no vector can give.
+pub const TOO_LARGE: u64 = 18446744073709551615;
 
 // A signed number, and whether it was one.
 pub struct Word {
@@ -11,16 +12,17 @@ pub struct Word {
 
 // The number with one digit more. Past the range it does not grow, so that no sum wraps.
 fn with_digit(number: u64, byte: u8) -> u64 {
-    if TOO_LARGE <= number {
-        return TOO_LARGE;
-    }
     if byte < b'0' {
         return TOO_LARGE;
     }
     if b'9' < byte {
         return TOO_LARGE;
     }
-    number * 10 + (byte - b'0') as u64
+    let digit = (byte - b'0') as u64;
+    if (TOO_LARGE - digit) / 10 < number {
+        return TOO_LARGE;
+    }
+    number * 10 + digit
 }
 
 // The number that the digits spell.

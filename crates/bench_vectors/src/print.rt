@@ -3,6 +3,7 @@ ghost use Prim.Native.Nat.{_≤_, _<_};
 ghost use mathlib.Core.Path.{_≡_};
 ghost use lib.ListN.{length};
 use answer::Answer;
+use arena_sections::Outcome;
 use libc::STDOUT_FILENO;
 
 pub(crate) fn text(text: &[u8]) {
@@ -33,6 +34,20 @@ pub(crate) fn answer(answer: Answer) {
     natural(answer.b as u64);
     text(b" ");
     natural(answer.need);
+}
+
+// The answer, and the state that is handed back.
+pub(crate) fn outcome(outcome: Outcome) {
+    let sections = outcome.sections;
+    answer(outcome.answer);
+    text(b"; sections ");
+    natural(sections.head as u64);
+    text(b" ");
+    natural(sections.temp as u64);
+    text(b" ");
+    natural(sections.tail as u64);
+    text(b" ");
+    natural(sections.usable as u64);
 }
 
 // The end of the equal entries that begin at a place.

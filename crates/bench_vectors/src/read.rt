@@ -4,6 +4,7 @@ ghost use mathlib.Core.Path.{_≡_};
 ghost use lib.ListN.{length, take};
 use crate::number;
 use crate::text;
+use arena_sections::Sections;
 
 // The words read into a table so far, and whether all of them were numbers that fit.
 pub struct Words {
@@ -14,6 +15,12 @@ pub struct Words {
 // A single unsigned number, and whether it was one.
 pub struct Unsigned {
     pub value: u32,
+    pub good: bool,
+}
+
+// A state of the sections, and whether its fields were numbers.
+pub struct GivenSections {
+    pub sections: Sections,
     pub good: bool,
 }
 
@@ -89,18 +96,40 @@ pub(crate) fn table(body: &[u8], field_number: usize, table: &mut [i32]) -> Word
     words
 }
 
-// Reads a field that is a single number, with one space before it at most.
+// Reads a field that is a single number of up to 64 bits, with one space before it at most; the number that stands for none where it is none.
+pub(crate) fn long(body: &[u8], field_number: usize) -> u64 {
+    number::magnitude(text::without_space(text::field(body, field_number)))
+}
+
+// Reads a field that is a single number of up to 32 bits.
 pub(crate) fn number(body: &[u8], field_number: usize) -> Unsigned {
-    let digits = number::magnitude(text::without_space(text::field(body, field_number)));
-    if number::TOO_LARGE <= digits {
+    let value = long(body, field_number);
+    if 4294967295 < value {
         return Unsigned {
             value: 0,
             good: false,
         };
     }
     Unsigned {
-        value: digits as u32,
+        value: value as u32,
         good: true,
+    }
+}
+
+// Reads a state of the sections: the fields 0 to 3 are head, temp, tail and usable.
+pub(crate) fn sections(body: &[u8]) -> GivenSections {
+    let head = number(body, 0);
+    let temp = number(body, 1);
+    let tail = number(body, 2);
+    let usable = number(body, 3);
+    GivenSections {
+        sections: Sections {
+            head: head.value,
+            temp: temp.value,
+            tail: tail.value,
+            usable: usable.value,
+        },
+        good: (head.good & temp.good) & (tail.good & usable.good),
     }
 }
 

@@ -64,5 +64,3 @@ lowest-bad-spec =
     loop-less
     loop-again
     returns-2)
-
--- x
