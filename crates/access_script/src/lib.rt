@@ -152,7 +152,7 @@ fn touch(offsets: &[i32], access: Access, arena: &mut [u8]) -> u8
     ensures byte { λ r. ⌜ r ≡ byteBy (now (offsets .entry)) access (now (arena .entry)) ⌝ }
 {
     let row = access.row;
-    let offset = plan_inspector::proposed_at(offsets, row);
+    let offset = proposals::proposed_at(offsets, row);
     let place = offset.0 as usize + access.index as usize;
     let found = arena[place];
     if access.reads {

@@ -1,71 +1,14 @@
 // The plan inspector: judges a plan that anyone may have proposed, one offset for each row of the request table (document 01, "The desk's order of
 // checks"). All is read where it lies; nothing is written.
-ghost use Prim.Native.Nat.{_≤_, _<_, _^_, max};
+ghost use Prim.Native.Nat.{_≤_, max};
 ghost use mathlib.Core.Path.{_≡_};
-ghost use Rattle.bounded.specs.First.{firstIn};
 ghost use Rattle.request_table.specs.Buffers.{bufferAt, endOrZero};
 ghost use Rattle.request_table.specs.Limits.{grid as gridOf, greatestRows};
 ghost use Rattle.request_table.specs.Table.{rows as rowsOf};
-ghost use Rattle.inspection_rule.specs.Inspect.{proposed, moved, offGrid, proposedNeed, pairOf, proposalOf, inspectOf};
+ghost use Rattle.inspection_rule.specs.Inspect.{proposed, proposedNeed, pairOf, proposalOf, inspectOf};
 use answer::Answer;
 use request_table::Buffer;
-use units::Offset;
 use units::Row;
-
-// The offset that is proposed for a row. A negative one stands above every limit, and past the proposal it is 0. It is a number of 32 bits, so that no
-// end of a row is too large for 64.
-pub fn proposed_at(offsets: &[i32], row: Row) -> Offset
-    ensures offset { λ r. ⌜ r .0 ≡ proposed (now (offsets .entry)) (row .0) ⌝ }
-    ensures small { λ r. ⌜ r .0 < 2 ^ 32 ⌝ }
-{
-    let place = words::natural(offsets, row.0) as u64;
-    Offset(place)
-}
-
-// Whether the row is fixed and was moved.
-fn is_moved(table: &[i32], offsets: &[i32], row: Row) -> bool
-    ensures { λ r. ⌜ r ≡ moved (now (table .entry)) (now (offsets .entry)) (row .0) ⌝ }
-{
-    let request = requests::request_at(table, row);
-    let place = proposed_at(offsets, row);
-    request.fixed & (place.0 != request.offset.0)
-}
-
-// The lowest fixed row that was moved, else the number of rows.
-fn lowest_moved(table: &[i32], offsets: &[i32]) -> Row
-    ensures { λ r. ⌜ r .0 ≡ firstIn (moved (now (table .entry)) (now (offsets .entry))) 0 (rowsOf (now (table .entry))) ⌝ }
-{
-    let n = table.len() / requests::ROW_WORDS;
-    let mut row = Row(0);
-    while row.0 < n {
-        if is_moved(table, offsets, row) {
-            return row;
-        }
-        row = Row(row.0 + 1);
-    }
-    row
-}
-
-// Whether the proposed offset is negative or not a multiple of the grid.
-fn is_off_grid(grid: u32, offsets: &[i32], row: Row) -> bool
-    ensures { λ r. ⌜ r ≡ offGrid grid (now (offsets .entry)) (row .0) ⌝ }
-{
-    words::is_negative(offsets, row.0) | !buffers::on_grid(grid, proposed_at(offsets, row))
-}
-
-// The lowest of so many rows with such an offset, else their number.
-fn lowest_off_grid(grid: u32, offsets: &[i32], count: usize) -> Row
-    ensures { λ r. ⌜ r .0 ≡ firstIn (offGrid grid (now (offsets .entry))) 0 count ⌝ }
-{
-    let mut row = Row(0);
-    while row.0 < count {
-        if is_off_grid(grid, offsets, row) {
-            return row;
-        }
-        row = Row(row.0 + 1);
-    }
-    row
-}
 
 // The row's buffer at its proposed offset.
 fn buffer_of(grid: u32, table: &[i32], offsets: &[i32], row: Row) -> Buffer
@@ -74,7 +17,7 @@ fn buffer_of(grid: u32, table: &[i32], offsets: &[i32], row: Row) -> Buffer
     buffers::buffer_at(
         grid,
         requests::request_at(table, row),
-        proposed_at(offsets, row),
+        proposals::proposed_at(offsets, row),
     )
 }
 
@@ -84,7 +27,7 @@ fn end_of(grid: u32, table: &[i32], offsets: &[i32], row: Row) -> u64
 {
     let request = requests::request_at(table, row);
     let length = alignment::round_up(grid, request.size);
-    let start = proposed_at(offsets, row);
+    let start = proposals::proposed_at(offsets, row);
     if 0 < length {
         return start.0 + length;
     }
@@ -145,8 +88,8 @@ fn judge_offsets(grid: u32, table: &[i32], space: u32, offsets: &[i32]) -> Answe
     ensures { λ r. ⌜ r ≡ proposalOf grid (now (table .entry)) space (now (offsets .entry)) ⌝ }
 {
     let n = table.len() / requests::ROW_WORDS;
-    let shifted = lowest_moved(table, offsets);
-    let uneven = lowest_off_grid(grid, offsets, n);
+    let shifted = proposals::lowest_moved(table, offsets);
+    let uneven = proposals::lowest_off_grid(grid, offsets, n);
     let need = need_of(grid, table, offsets);
     let moved = Answer::refused_at(Answer::FIXED_ROW_MOVED, shifted.0 as u32);
     let off_grid = Answer::refused_at(Answer::BAD_OFFSET, uneven.0 as u32);

@@ -1,7 +1,7 @@
--- `plan_inspector::proposed_at` meets its contract.
+-- `proposals::proposed_at` meets its contract.
 use borrow.Author.Needs.{needs}
-use Rattle.plan_inspector.proofs.proposed_at.Statement.{statement}
-use Rattle.plan_inspector.proofs.proposed_at.Tie as tie
+use Rattle.proposals.proofs.proposed_at.Statement.{statement}
+use Rattle.proposals.proofs.proposed_at.Tie as tie
 
 natural-requires : tie.Need-natural-requires
 natural-requires c κs = search needs

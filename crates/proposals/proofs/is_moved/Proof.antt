@@ -1,8 +1,8 @@
--- `plan_inspector::is_moved` meets its contract.
+-- `proposals::is_moved` meets its contract.
 use borrow.Author.Needs.{needs}
-use Rattle.plan_inspector.proofs.Moved.{moved-is}
-use Rattle.plan_inspector.proofs.is_moved.Statement.{statement}
-use Rattle.plan_inspector.proofs.is_moved.Tie as tie
+use Rattle.proposals.proofs.Moved.{moved-is}
+use Rattle.proposals.proofs.is_moved.Statement.{statement}
+use Rattle.proposals.proofs.is_moved.Tie as tie
 
 request-at-requires : tie.Need-request-at-requires
 request-at-requires c κs = search needs

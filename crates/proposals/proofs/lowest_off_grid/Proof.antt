@@ -1,11 +1,11 @@
--- `plan_inspector::lowest_off_grid` meets its contract: the scan of the rows.
+-- `proposals::lowest_off_grid` meets its contract: the scan of the rows.
 use Prim.Native.Nat.{_-_}
 use mathlib.Core.Path.{sym, _∙_}
 use native.Mathlib.Omega.{arith}
 use Rattle.bounded.specs.First.{Scan, scan, pass, hit, out}
 use Rattle.inspection_rule.specs.Inspect.{offGrid}
-use Rattle.plan_inspector.proofs.lowest_off_grid.Statement.{statement}
-use Rattle.plan_inspector.proofs.lowest_off_grid.Tie as tie
+use Rattle.proposals.proofs.lowest_off_grid.Statement.{statement}
+use Rattle.proposals.proofs.lowest_off_grid.Tie as tie
 
 abbrev Inv-loop : tie.InvT-loop
 Inv-loop grid offsets count row₀ row = Scan (offGrid grid offsets) 0 count (row .0)

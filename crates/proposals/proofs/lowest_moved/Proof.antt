@@ -1,11 +1,11 @@
--- `plan_inspector::lowest_moved` meets its contract: the scan of the rows.
+-- `proposals::lowest_moved` meets its contract: the scan of the rows.
 use Prim.Native.Nat.{_-_}
 use mathlib.Core.Path.{sym, _∙_}
 use native.Mathlib.Omega.{arith}
 use Rattle.bounded.specs.First.{Scan, scan, pass, hit, out}
 use Rattle.inspection_rule.specs.Inspect.{moved}
-use Rattle.plan_inspector.proofs.lowest_moved.Statement.{statement}
-use Rattle.plan_inspector.proofs.lowest_moved.Tie as tie
+use Rattle.proposals.proofs.lowest_moved.Statement.{statement}
+use Rattle.proposals.proofs.lowest_moved.Tie as tie
 
 abbrev Inv-loop : tie.InvT-loop
 Inv-loop table offsets n row₀ row = Scan (moved table offsets) 0 n (row .0)

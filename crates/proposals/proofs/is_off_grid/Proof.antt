@@ -1,11 +1,11 @@
--- `plan_inspector::is_off_grid` meets its contract.
+-- `proposals::is_off_grid` meets its contract.
 use mathlib.Core.Bool.{Bool, not, _||_}
 use mathlib.Core.Path.{_∙_, ap, ap₂}
 use borrow.Author.Needs.{needs}
 use Rattle.request_table.specs.Table.{onGrid}
 use Rattle.inspection_rule.specs.Inspect.{offGrid}
-use Rattle.plan_inspector.proofs.is_off_grid.Statement.{statement}
-use Rattle.plan_inspector.proofs.is_off_grid.Tie as tie
+use Rattle.proposals.proofs.is_off_grid.Statement.{statement}
+use Rattle.proposals.proofs.is_off_grid.Tie as tie
 
 is-negative-requires : tie.Need-is-negative-requires
 is-negative-requires c κs = search needs
