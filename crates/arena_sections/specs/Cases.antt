@@ -12,7 +12,7 @@ use Rattle.answer.specs.Answer.{sectionsNotValid, badAlignment, noRoom, tempora
 use Rattle.bounded.specs.Causes.{NoneHolds, AllRefuse, firstCause, follows-more, by-causes, passed, refused-stands}
 use Rattle.arena_sections.specs.Room.{not-usable-of, usable-of, full-of, room-of, temp-full-of, temp-room-of}
 use Rattle.arena_sections.specs.SoundHistory as SoundHistory
-use Rattle.arena_sections.specs.Sections.{greatestLength, zeros, fresh, valid, withTemp, withHead, refusedWith, doneWith, usableLength, openOf, stateCauses, allocationCauses, allocationOf, persistentStart, persistentRoom, persistentDone, persistentOf, tempStart, tempRoom, tempDone, tempOf, resetOf, headCauses, headOf}
+use Rattle.arena_sections.specs.Sections.{greatestLength, zeros, fresh, valid, withTemp, withHead, refusedOutcome, doneOutcome, usableLength, openOf, stateCauses, allocationCauses, allocationOf, persistentStart, persistentRoom, persistentDone, persistentOf, tempStart, tempRoom, tempDone, tempOf, resetOf, headCauses, headOf}
 use Rattle.arena_sections.specs.declared.Outcome.{Outcome}
 use Rattle.arena_sections.specs.declared.Sections.{Sections}
 
@@ -24,17 +24,17 @@ numberOf o = o .answer .number
 
 module _ (g start length : ℕ) where
   -- Shorter than what is lost.
-  pub open-short : length < loss g start → refusedWith sectionsNotValid zeros ≡ openOf g start length
+  pub open-short : length < loss g start → refusedOutcome sectionsNotValid zeros ≡ openOf g start length
   unfolding openOf
   open-short l = rw (not-usable-of g start length (inl l), firstCause)
 
   -- Too long.
-  pub open-long : loss g start ≤ length → greatestLength < usableLength g start length → refusedWith sectionsNotValid zeros ≡ openOf g start length
+  pub open-long : loss g start ≤ length → greatestLength < usableLength g start length → refusedOutcome sectionsNotValid zeros ≡ openOf g start length
   unfolding openOf
   open-long l m = rw (not-usable-of g start length (inr m), firstCause)
 
   -- Opened.
-  pub open-done : loss g start ≤ length → usableLength g start length ≤ greatestLength → doneWith 0 (fresh (usableLength g start length)) ≡ openOf g start length
+  pub open-done : loss g start ≤ length → usableLength g start length ≤ greatestLength → doneOutcome 0 (fresh (usableLength g start length)) ≡ openOf g start length
   unfolding openOf
   open-done l m = rw (usable-of g start length l m, firstCause)
 
@@ -63,16 +63,16 @@ module _ (g : ℕ) (s : Sections) (a : ℕ) where
   -- Where they passed, neither holds,
   pub allocation-passed : allocationNumber ≡ 0 → NoneHolds (allocationCauses g s a)
   unfolding allocationOf
-  allocation-passed e = passed numberOf (allocationCauses g s a) (doneWith 0 s) (omega arith, (omega arith, tt)) e .0
+  allocation-passed e = passed numberOf (allocationCauses g s a) (doneOutcome 0 s) (omega arith, (omega arith, tt)) e .0
 
   -- so that the alignment is above 0.
   pub alignment-some : allocationNumber ≡ 0 → 0 < a
   alignment-some e = allowed-some g a (allowed-says g a (not-false (allowed g a) (allocation-passed e .1 .0)))
 
-  allocation-refusal : (allocationNumber ≡ 0 → ⊥) → refusedWith allocationNumber s ≡ allocationOf g s a
+  allocation-refusal : (allocationNumber ≡ 0 → ⊥) → refusedOutcome allocationNumber s ≡ allocationOf g s a
   unfolding allocationOf
   allocation-refusal =
-      by-causes (λ (o : Outcome). (numberOf o ≡ 0 → ⊥) → refusedWith (numberOf o) s ≡ o) (allocationCauses g s a) (doneWith 0 s)
+      by-causes (λ (o : Outcome). (numberOf o ≡ 0 → ⊥) → refusedOutcome (numberOf o) s ≡ o) (allocationCauses g s a) (doneOutcome 0 s)
       ((λ h. refl), ((λ h. refl), tt))
       (λ n h. absurd (h refl))
 
@@ -84,18 +84,18 @@ start-by-gap s size a = omega (arith, down-rest a (s .tail - size))
 
 module _ (g : ℕ) (s : Sections) (size a : ℕ) where
   -- A refusal by 13 or 14 is the persistent allocation's,
-  pub persistent-checked : (allocationNumber g s a ≡ 0 → ⊥) → refusedWith (allocationNumber g s a) s ≡ persistentOf g s size a
+  pub persistent-checked : (allocationNumber g s a ≡ 0 → ⊥) → refusedOutcome (allocationNumber g s a) s ≡ persistentOf g s size a
   unfolding allocationOf persistentOf
   persistent-checked h =
       allocation-refusal g s a h
-      ∙ refused-stands numberOf (allocationCauses g s a) (persistentRoom s size a) (doneWith 0 s) (persistentDone s size a) refl h
+      ∙ refused-stands numberOf (allocationCauses g s a) (persistentRoom s size a) (doneOutcome 0 s) (persistentDone s size a) refl h
 
   -- and the temporary one's.
-  pub temp-checked : (allocationNumber g s a ≡ 0 → ⊥) → refusedWith (allocationNumber g s a) s ≡ tempOf g s size a
+  pub temp-checked : (allocationNumber g s a ≡ 0 → ⊥) → refusedOutcome (allocationNumber g s a) s ≡ tempOf g s size a
   unfolding allocationOf tempOf
   temp-checked h =
       allocation-refusal g s a h
-      ∙ refused-stands numberOf (allocationCauses g s a) (tempRoom s size a) (doneWith 0 s) (tempDone s size a) refl h
+      ∙ refused-stands numberOf (allocationCauses g s a) (tempRoom s size a) (doneOutcome 0 s) (tempDone s size a) refl h
 
   -- Past them the room decides.
   module _ (p : allocationNumber g s a ≡ 0) where
@@ -108,11 +108,11 @@ module _ (g : ℕ) (s : Sections) (size a : ℕ) where
     temp-decides = sym (follows-more (allocationCauses g s a) (tempRoom s size a) (tempDone s size a) (allocation-passed g s a p))
 
     -- More than all that is below the tail.
-    pub persistent-too-large : s .tail < size → refusedWith noRoom s ≡ persistentOf g s size a
+    pub persistent-too-large : s .tail < size → refusedOutcome noRoom s ≡ persistentOf g s size a
     persistent-too-large l = (rw (full-of s size a (inl l), firstCause)) ∙ persistent-decides
 
     -- Into the temporaries.
-    pub persistent-no-room : size ≤ s .tail → persistentStart s size a < s .temp → refusedWith noRoom s ≡ persistentOf g s size a
+    pub persistent-no-room : size ≤ s .tail → persistentStart s size a < s .temp → refusedOutcome noRoom s ≡ persistentOf g s size a
     persistent-no-room l m = (rw (full-of s size a (inr m), firstCause)) ∙ persistent-decides
 
     -- There is room.
@@ -120,7 +120,7 @@ module _ (g : ℕ) (s : Sections) (size a : ℕ) where
     persistent-room l m = (rw (room-of s size a l m, firstCause)) ∙ persistent-decides
 
     -- Into persistent memory.
-    pub temp-no-room : s .tail < tempStart s a + size → refusedWith noRoom s ≡ tempOf g s size a
+    pub temp-no-room : s .tail < tempStart s a + size → refusedOutcome noRoom s ≡ tempOf g s size a
     temp-no-room l = (rw (temp-full-of s size a l, firstCause)) ∙ temp-decides
 
     -- There is room.
@@ -131,37 +131,37 @@ module _ (g : ℕ) (s : Sections) (size a : ℕ) where
 
 module _ (s : Sections) where
   -- A state that is not valid is not reset,
-  pub reset-not-valid : valid s ≡ false → refusedWith sectionsNotValid s ≡ resetOf s
+  pub reset-not-valid : valid s ≡ false → refusedOutcome sectionsNotValid s ≡ resetOf s
   unfolding resetOf
   reset-not-valid v = rw (v, firstCause)
 
   -- and any other is.
-  pub reset-done : valid s ≡ true → doneWith 0 (withTemp s (s .head)) ≡ resetOf s
+  pub reset-done : valid s ≡ true → doneOutcome 0 (withTemp s (s .head)) ≡ resetOf s
   unfolding resetOf
   reset-done v = rw (v, firstCause)
 
   module _ (length : ℕ) where
     -- The state is not valid, whatever the length.
-    pub head-not-valid : valid s ≡ false → refusedWith sectionsNotValid s ≡ headOf s length
+    pub head-not-valid : valid s ≡ false → refusedOutcome sectionsNotValid s ≡ headOf s length
     unfolding headOf
     head-not-valid v = rw (v, firstCause)
 
     -- Temporaries are out, whatever the length.
-    pub head-temporaries-out : valid s ≡ true → (s .temp ≡ s .head → ⊥) → refusedWith temporariesOut s ≡ headOf s length
+    pub head-temporaries-out : valid s ≡ true → (s .temp ≡ s .head → ⊥) → refusedOutcome temporariesOut s ≡ headOf s length
     unfolding headOf
     head-temporaries-out v n = rw (v, ne-eqb _ _ n, firstCause)
 
     -- It would be smaller.
-    pub head-smaller : valid s ≡ true → s .temp ≡ s .head → length < s .head → refusedWith headMadeSmaller s ≡ headOf s length
+    pub head-smaller : valid s ≡ true → s .temp ≡ s .head → length < s .head → refusedOutcome headMadeSmaller s ≡ headOf s length
     unfolding headOf
     head-smaller v e l = rw (v, eq-eqb _ _ e, lt-ltb _ _ l, firstCause)
 
     -- Into persistent memory.
-    pub head-no-room : valid s ≡ true → s .temp ≡ s .head → s .head ≤ length → s .tail < length → refusedWith noRoom s ≡ headOf s length
+    pub head-no-room : valid s ≡ true → s .temp ≡ s .head → s .head ≤ length → s .tail < length → refusedOutcome noRoom s ≡ headOf s length
     unfolding headOf
     head-no-room v e l m = rw (v, eq-eqb _ _ e, le-ltb _ _ l, lt-ltb _ _ m, firstCause)
 
     -- There is room.
-    pub head-room : valid s ≡ true → s .temp ≡ s .head → s .head ≤ length → length ≤ s .tail → doneWith 0 (withHead s length) ≡ headOf s length
+    pub head-room : valid s ≡ true → s .temp ≡ s .head → s .head ≤ length → length ≤ s .tail → doneOutcome 0 (withHead s length) ≡ headOf s length
     unfolding headOf
     head-room v e l m = rw (v, eq-eqb _ _ e, le-ltb _ _ l, le-ltb _ _ m, firstCause)

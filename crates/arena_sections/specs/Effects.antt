@@ -1,75 +1,17 @@
 -- What each effect leaves of the book-keeping: the state and what is held agree, and go on agreeing. One law for each effect, whatever operation had
 -- it, so that an operation added later shows only which effect it has (`Does`), and an effect added later its own law.
-use Prim.Native.Nat.{ℕ, zero, suc, _+_, _<_, _≤_, max}
+use Prim.Native.Nat.{ℕ, _+_, _≤_}
 use mathlib.Core.List.{List, [], _∷_}
 use mathlib.Core.Path.{_≡_, refl}
-use native.Mathlib.Nat.{le-of-suc-le-suc}
 use native.Mathlib.Omega.{arith}
-use lib.ListN.{length, getD}
-use Rattle.arena_sections.specs.History.{Span, Kept, Held, Effect, used, tailBy, applied, nothingHeld}
+use Rattle.bounded.specs.Entries.{Each, EachTwo, each-more, two-more}
+use Rattle.arena_sections.specs.History.{Span, Kept, Held, Effect, Apart, Inside, KeptApart, KeptInside, noSpan, noKept, used, tailBy, tempBy, applied, nothingHeld}
 use Rattle.arena_sections.specs.History.Effect.{nothing, keeps, borrows, resets, setsHead}
 use Rattle.arena_sections.specs.Ordered.{Ordered}
 use Rattle.arena_sections.specs.Sections.{greatestLength, fresh, withTail, withTemp, withHead}
 use Rattle.arena_sections.specs.declared.Sections.{Sections}
 
--- ---- of every entry of a list, and of every two
-
--- So of the entry at each index; the last argument is what stands past the end.
-abbrev pub Each : {A : Type 0} → (A → Type 0) → List A → A → Type 0
-Each So xs d = (i : ℕ) → i < length xs → So (getD xs i d)
-
--- So of the entries at any two indices i < j.
-abbrev pub EachTwo : {A : Type 0} → (A → A → Type 0) → List A → A → Type 0
-EachTwo So xs d = (i j : ℕ) → i < j → j < length xs → So (getD xs i d) (getD xs j d)
-
--- One entry more in front.
-pub each-more : {A : Type 0} (So : A → Type 0) (x : A) (xs : List A) (d : A) → So x → Each So xs d → Each So (x ∷ xs) d
-each-more So x xs d p f zero l = p
-each-more So x xs d p f (suc i) l = f i (le-of-suc-le-suc l)
-
--- One entry more in front, of which it is so with every other.
-pub two-more : {A : Type 0} (So : A → A → Type 0) (x : A) (xs : List A) (d : A) → Each (So x) xs d → EachTwo So xs d → EachTwo So (x ∷ xs) d
-two-more So x xs d p f i zero l m = absurd (omega arith)
-two-more So x xs d p f zero (suc j) l m = p j (le-of-suc-le-suc m)
-two-more So x xs d p f (suc i) (suc j) l m = f i j (le-of-suc-le-suc l) (le-of-suc-le-suc m)
-
--- ---- spans
-
--- The span has the byte.
-pub record Has (x : Span) (byte : ℕ) : Type 0 where
-  pub from : x .start ≤ byte
-  pub below : byte < x .start + x .size
-
--- Two spans share no byte.
-abbrev pub Apart : Span → Span → Type 0
-Apart x y = (byte : ℕ) → Has x byte → Has y byte → ⊥
-
--- Every byte of the span lies from one place to another.
-abbrev pub Inside : ℕ → ℕ → Span → Type 0
-Inside low high x = (byte : ℕ) → Has x byte → (low ≤ byte) × (byte < high)
-
--- No span: what stands past the end of a list of them.
-abbrev pub noSpan : Span
-noSpan = record { start = 0; size = 0 }
-
--- No kept span.
-abbrev pub noKept : Kept
-noKept = record { span = noSpan; gap = 0 }
-
--- Two kept spans share no byte.
-abbrev pub KeptApart : Kept → Kept → Type 0
-KeptApart k l = Apart (k .span) (l .span)
-
--- Every byte of the kept span lies from one place to another.
-abbrev pub KeptInside : ℕ → ℕ → Kept → Type 0
-KeptInside low high k = Inside low high (k .span)
-
 -- ---- the state and what is held
-
--- Where the temporaries end: where the newest borrowed span ends. Where that is below the head's end, it has no byte, and they end there.
-abbrev pub tempBy : ℕ → List Span → ℕ
-tempBy head [] = head
-tempBy head (x ∷ xs) = max head (x .start + x .size)
 
 -- The books agree: a state of an arena of a usable length, and what a history holds.
 pub record Books (usable : ℕ) (s : Sections) (h : Held) : Type 0 where

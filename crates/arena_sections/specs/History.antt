@@ -1,7 +1,7 @@
 -- Histories of the sections: an accepted opening, then any operations with any arguments, refused ones among them, each on the state that the one
 -- before handed back. What a history holds, the kept spans with their gaps, the borrowed spans not yet reset and the head, is worked out here from the
 -- operations and their answers, and from no state. Document 01 calls a persistent allocation a keep and a temporary one a borrow.
-use Prim.Native.Nat.{ℕ, _+_, _-_, _%_}
+use Prim.Native.Nat.{ℕ, _+_, _-_, _%_, _<_, _≤_, max}
 use mathlib.Core.Bool.{true, false}
 use mathlib.Core.List.{List, [], _∷_}
 use lib.Dec.{eqb}
@@ -54,6 +54,35 @@ pub record Kept : Type 0 where
   pub span : Span
   pub gap : ℕ
 
+-- No span: what stands past the end of a list of them.
+abbrev pub noSpan : Span
+noSpan = record { start = 0; size = 0 }
+
+-- No kept span.
+abbrev pub noKept : Kept
+noKept = record { span = noSpan; gap = 0 }
+
+-- The span has the byte.
+pub record Has (x : Span) (byte : ℕ) : Type 0 where
+  pub from : x .start ≤ byte
+  pub below : byte < x .start + x .size
+
+-- Two spans share no byte.
+abbrev pub Apart : Span → Span → Type 0
+Apart x y = (byte : ℕ) → Has x byte → Has y byte → ⊥
+
+-- Two kept spans share no byte.
+abbrev pub KeptApart : Kept → Kept → Type 0
+KeptApart k l = Apart (k .span) (l .span)
+
+-- Every byte of the span lies from one place to another.
+abbrev pub Inside : ℕ → ℕ → Span → Type 0
+Inside low high x = (byte : ℕ) → Has x byte → (low ≤ byte) × (byte < high)
+
+-- Every byte of the kept span lies from one place to another.
+abbrev pub KeptInside : ℕ → ℕ → Kept → Type 0
+KeptInside low high k = Inside low high (k .span)
+
 -- The bytes that keeps took: size and gap of each.
 unfoldable pub used : List Kept → ℕ
 used [] = 0
@@ -75,6 +104,11 @@ nothingHeld = record { kept = []; borrowed = []; head = 0 }
 abbrev pub tailBy : ℕ → List Kept → ℕ
 tailBy usable [] = usable
 tailBy usable (k ∷ ks) = k .span .start
+
+-- Where the borrowed spans end: where the newest one does. Where that is below the head's end, it has no byte, and they end with the head.
+abbrev pub tempBy : ℕ → List Span → ℕ
+tempBy head [] = head
+tempBy head (x ∷ xs) = max head (x .start + x .size)
 
 -- What an operation does to what is held. Whatever is added to the sections does some of these, or a new one.
 pub data Effect : Type 0 where

@@ -12,7 +12,7 @@ use Rattle.arena_sections.specs.Effects.{Does}
 use Rattle.arena_sections.specs.History.{Operation, outcomeOf, effectOf}
 use Rattle.arena_sections.specs.History.Operation.{allocatePersistent, allocateTemp, resetTemp, setHead}
 use Rattle.arena_sections.specs.Room.{room-says, temp-room-says}
-use Rattle.arena_sections.specs.Sections.{stateCauses, allocationCauses, persistentRoom, persistentDone, persistentOf, tempRoom, tempDone, tempOf, resetOf, headCauses, headOf, doneWith, withTemp, withHead}
+use Rattle.arena_sections.specs.Sections.{stateCauses, allocationCauses, persistentRoom, persistentDone, persistentOf, tempRoom, tempDone, tempOf, resetOf, headCauses, headOf, doneOutcome, withTemp, withHead}
 use Rattle.arena_sections.specs.declared.Outcome.{Outcome}
 use Rattle.arena_sections.specs.declared.Sections.{Sections}
 
@@ -39,12 +39,12 @@ module _ (g : ℕ) (s : Sections) where
 
   reset-effect : HasEffect resetTemp (resetOf s)
   unfolding resetOf
-  reset-effect = by-causes (HasEffect resetTemp) (stateCauses s) (doneWith 0 (withTemp s (s .head))) (refl, tt) (λ n. refl)
+  reset-effect = by-causes (HasEffect resetTemp) (stateCauses s) (doneOutcome 0 (withTemp s (s .head))) (refl, tt) (λ n. refl)
 
   head-effect : (length : ℕ) → HasEffect (setHead length) (headOf s length)
   unfolding headOf
   head-effect length =
-      by-causes (HasEffect (setHead length)) (stateCauses s ++ headCauses s length) (doneWith 0 (withHead s length)) (refl, (refl, (refl, (refl, tt))))
+      by-causes (HasEffect (setHead length)) (stateCauses s ++ headCauses s length) (doneOutcome 0 (withHead s length)) (refl, (refl, (refl, (refl, tt))))
       (λ n.
       let e : s .temp ≡ s .head = eqb-true _ _ (not-false (eqb (s .temp) (s .head)) (n .1 .0)) in
       (refl, e, ltb-false _ _ (n .1 .1 .0), ltb-false _ _ (n .1 .1 .1 .0)))

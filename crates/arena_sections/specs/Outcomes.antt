@@ -16,7 +16,7 @@ use Rattle.arena_sections.specs.Cases.{numberOf, allocationNumber, open-
 use Rattle.arena_sections.specs.History.{Operation, outcomeOf}
 use Rattle.arena_sections.specs.History.Operation.{allocatePersistent, allocateTemp, resetTemp, setHead}
 use Rattle.arena_sections.specs.Ordered.{Ordered, valid-says, valid-of}
-use Rattle.arena_sections.specs.Sections.{greatestLength, zeros, fresh, valid, withTemp, withHead, refusedWith, doneWith, openOf, stateCauses, allocationCauses, persistentStart, persistentRoom, persistentDone, persistentOf, tempStart, tempRoom, tempDone, tempOf, resetOf, headCauses, headOf}
+use Rattle.arena_sections.specs.Sections.{greatestLength, zeros, fresh, valid, withTemp, withHead, refusedOutcome, doneOutcome, openOf, stateCauses, allocationCauses, persistentStart, persistentRoom, persistentDone, persistentOf, tempStart, tempRoom, tempDone, tempOf, resetOf, headCauses, headOf}
 use Rattle.arena_sections.specs.declared.Outcome.{Outcome}
 use Rattle.arena_sections.specs.declared.Sections.{Sections}
 
@@ -33,9 +33,9 @@ pub record Lost (g start lost : ℕ) : Type 0 where
 module _ (g start length : ℕ) where
   -- What opening hands back.
   pub data Opening : Type 0 where
-    too-short : (lost : ℕ) → Lost g start lost → length < lost → openOf g start length ≡ refusedWith sectionsNotValid zeros → Opening
-    too-long : (lost usable : ℕ) → Lost g start lost → lost + usable ≡ length → greatestLength < usable → openOf g start length ≡ refusedWith sectionsNotValid zeros → Opening
-    opened : (lost usable : ℕ) → Lost g start lost → lost + usable ≡ length → usable ≤ greatestLength → openOf g start length ≡ doneWith 0 (fresh usable) → Opening
+    too-short : (lost : ℕ) → Lost g start lost → length < lost → openOf g start length ≡ refusedOutcome sectionsNotValid zeros → Opening
+    too-long : (lost usable : ℕ) → Lost g start lost → lost + usable ≡ length → greatestLength < usable → openOf g start length ≡ refusedOutcome sectionsNotValid zeros → Opening
+    opened : (lost usable : ℕ) → Lost g start lost → lost + usable ≡ length → usable ≤ greatestLength → openOf g start length ≡ doneOutcome 0 (fresh usable) → Opening
 
   -- On any grid above 0 it is one of these.
   pub opening : 0 < g → Opening
@@ -93,9 +93,9 @@ module _ (g : ℕ) (s : Sections) (size a : ℕ) where
   lowest-start h = record { aligned = up-multiple a (s .temp); above = up-holds a (s .temp) h; lowest = up-least a (s .temp) h }
 
   -- a refusal by 13 or 14 is handed on by whichever allocation it is
-  handed-on : (n : ℕ) (o : Outcome) → n ≡ allocationNumber g s a → (n ≡ 0 → ⊥) → ((allocationNumber g s a ≡ 0 → ⊥) → refusedWith (allocationNumber g s a) s ≡ o)
+  handed-on : (n : ℕ) (o : Outcome) → n ≡ allocationNumber g s a → (n ≡ 0 → ⊥) → ((allocationNumber g s a ≡ 0 → ⊥) → refusedOutcome (allocationNumber g s a) s ≡ o)
       → o .answer ≡ refused n
-  handed-on n o e f k = ap answerOf (sym (ap (λ (m : ℕ). refusedWith m s) e ∙ k (λ z. f (e ∙ z))))
+  handed-on n o e f k = ap answerOf (sym (ap (λ (m : ℕ). refusedOutcome m s) e ∙ k (λ z. f (e ∙ z))))
 
   -- A persistent allocation answers one of these.
   pub persistent : Persistent
@@ -183,7 +183,7 @@ module _ (g : ℕ) (s : Sections) where
   refusal-keeps (allocateTemp size a) =
       by-causes StateKept (allocationCauses g s a ++ tempRoom s size a) (tempDone s size a)
       ((λ h. refl), ((λ h. refl), ((λ h. refl), tt))) (λ n h. absurd (h refl))
-  refusal-keeps resetTemp = by-causes StateKept (stateCauses s) (doneWith 0 (withTemp s (s .head))) ((λ h. refl), tt) (λ n h. absurd (h refl))
+  refusal-keeps resetTemp = by-causes StateKept (stateCauses s) (doneOutcome 0 (withTemp s (s .head))) ((λ h. refl), tt) (λ n h. absurd (h refl))
   refusal-keeps (setHead length) =
-      by-causes StateKept (stateCauses s ++ headCauses s length) (doneWith 0 (withHead s length))
+      by-causes StateKept (stateCauses s ++ headCauses s length) (doneOutcome 0 (withHead s length))
       ((λ h. refl), ((λ h. refl), ((λ h. refl), ((λ h. refl), tt)))) (λ n h. absurd (h refl))

@@ -54,12 +54,12 @@ withHead s head = record { head = head; temp = head; tail = s .tail; usable = s 
 -- ---- outcomes
 
 -- Refused by a number, with the state that is handed back.
-abbrev pub refusedWith : ℕ → Sections → Outcome
-refusedWith number s = record { answer = A.refused number; sections = s }
+abbrev pub refusedOutcome : ℕ → Sections → Outcome
+refusedOutcome number s = record { answer = A.refused number; sections = s }
 
 -- Done, with the start of what was allocated and the next state.
-abbrev pub doneWith : ℕ → Sections → Outcome
-doneWith start s = record { answer = A.doneAt start; sections = s }
+abbrev pub doneOutcome : ℕ → Sections → Outcome
+doneOutcome start s = record { answer = A.doneAt start; sections = s }
 
 -- ---- opening
 
@@ -73,25 +73,25 @@ notUsable g start length = ltb length (loss g start) || ltb greatestLength (usab
 
 -- 13: "a refused opening hands back a state of zeros".
 abbrev pub openCauses : ℕ → ℕ → ℕ → List (Cause Outcome)
-openCauses g start length = (notUsable g start length ⇒ refusedWith A.sectionsNotValid zeros) ∷ []
+openCauses g start length = (notUsable g start length ⇒ refusedOutcome A.sectionsNotValid zeros) ∷ []
 
 -- An arena at a start with a length.
 unfoldable pub openOf : ℕ → ℕ → ℕ → Outcome
-openOf g start length = firstCause (openCauses g start length) (doneWith 0 (fresh (usableLength g start length)))
+openOf g start length = firstCause (openCauses g start length) (doneOutcome 0 (fresh (usableLength g start length)))
 
 -- ---- operations on the state
 
 -- 13.
 abbrev pub stateCauses : Sections → List (Cause Outcome)
-stateCauses s = (not (valid s) ⇒ refusedWith A.sectionsNotValid s) ∷ []
+stateCauses s = (not (valid s) ⇒ refusedOutcome A.sectionsNotValid s) ∷ []
 
 -- 13, 14: both allocations begin with them.
 abbrev pub allocationCauses : ℕ → Sections → ℕ → List (Cause Outcome)
-allocationCauses g s alignment = stateCauses s ++ ((not (allowed g alignment) ⇒ refusedWith A.badAlignment s) ∷ [])
+allocationCauses g s alignment = stateCauses s ++ ((not (allowed g alignment) ⇒ refusedOutcome A.badAlignment s) ∷ [])
 
 -- The outcome of the checks 13 and 14 alone: a refusal, or done with the state as it was.
 unfoldable pub allocationOf : ℕ → Sections → ℕ → Outcome
-allocationOf g s alignment = firstCause (allocationCauses g s alignment) (doneWith 0 s)
+allocationOf g s alignment = firstCause (allocationCauses g s alignment) (doneOutcome 0 s)
 
 -- "Keep (persistent): start is tail − size rounded down to the alignment".
 abbrev pub persistentStart : Sections → ℕ → ℕ → ℕ
@@ -103,11 +103,11 @@ persistentFull s size alignment = ltb (s .tail) size || ltb (persistentStart s s
 
 -- 15.
 abbrev pub persistentRoom : Sections → ℕ → ℕ → List (Cause Outcome)
-persistentRoom s size alignment = (persistentFull s size alignment ⇒ refusedWith A.noRoom s) ∷ []
+persistentRoom s size alignment = (persistentFull s size alignment ⇒ refusedOutcome A.noRoom s) ∷ []
 
 -- "it becomes the tail".
 abbrev pub persistentDone : Sections → ℕ → ℕ → Outcome
-persistentDone s size alignment = doneWith (persistentStart s size alignment) (withTail s (persistentStart s size alignment))
+persistentDone s size alignment = doneOutcome (persistentStart s size alignment) (withTail s (persistentStart s size alignment))
 
 -- A persistent allocation: 13, 14, 15.
 unfoldable pub persistentOf : ℕ → Sections → ℕ → ℕ → Outcome
@@ -123,11 +123,11 @@ tempFull s size alignment = ltb (s .tail) (tempStart s alignment + size)
 
 -- 15.
 abbrev pub tempRoom : Sections → ℕ → ℕ → List (Cause Outcome)
-tempRoom s size alignment = (tempFull s size alignment ⇒ refusedWith A.noRoom s) ∷ []
+tempRoom s size alignment = (tempFull s size alignment ⇒ refusedOutcome A.noRoom s) ∷ []
 
 -- "start + size becomes temp".
 abbrev pub tempDone : Sections → ℕ → ℕ → Outcome
-tempDone s size alignment = doneWith (tempStart s alignment) (withTemp s (tempStart s alignment + size))
+tempDone s size alignment = doneOutcome (tempStart s alignment) (withTemp s (tempStart s alignment + size))
 
 -- A temporary allocation: 13, 14, 15.
 unfoldable pub tempOf : ℕ → Sections → ℕ → ℕ → Outcome
@@ -135,16 +135,16 @@ tempOf g s size alignment = firstCause (allocationCauses g s alignment ++ tempRo
 
 -- "Reset: temp becomes head."
 unfoldable pub resetOf : Sections → Outcome
-resetOf s = firstCause (stateCauses s) (doneWith 0 (withTemp s (s .head)))
+resetOf s = firstCause (stateCauses s) (doneOutcome 0 (withTemp s (s .head)))
 
 -- "Set head to a length: 16 if temp ≠ head; 17 if below head; 15 if above tail".
 abbrev pub headCauses : Sections → ℕ → List (Cause Outcome)
 headCauses s length =
-    (not (eqb (s .temp) (s .head)) ⇒ refusedWith A.temporariesOut s)
-    ∷ (ltb length (s .head) ⇒ refusedWith A.headMadeSmaller s)
-    ∷ (ltb (s .tail) length ⇒ refusedWith A.noRoom s)
+    (not (eqb (s .temp) (s .head)) ⇒ refusedOutcome A.temporariesOut s)
+    ∷ (ltb length (s .head) ⇒ refusedOutcome A.headMadeSmaller s)
+    ∷ (ltb (s .tail) length ⇒ refusedOutcome A.noRoom s)
     ∷ []
 
 -- "else head = temp = length": 13, 16, 17, 15.
 unfoldable pub headOf : Sections → ℕ → Outcome
-headOf s length = firstCause (stateCauses s ++ headCauses s length) (doneWith 0 (withHead s length))
+headOf s length = firstCause (stateCauses s ++ headCauses s length) (doneOutcome 0 (withHead s length))

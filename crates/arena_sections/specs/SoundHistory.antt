@@ -8,12 +8,13 @@ use native.Mathlib.Omega.{arith}
 use lib.ListN.{take}
 use Rattle.answer.specs.Answer.{done}
 use Rattle.bounded.specs.Causes.{by-causes}
-use Rattle.arena_sections.specs.Effects.{Each, EachTwo, Has, Apart, Inside, KeptApart, KeptInside, noSpan, noKept, tempBy, Books, goes-on, begins}
-use Rattle.arena_sections.specs.History.{Operation, Span, Kept, Held, outcomeOf, after, events, used, tailBy, effectOf, heldAfter, nothingHeld, opened, stateAfter, held}
+use Rattle.bounded.specs.Entries.{Each, EachTwo}
+use Rattle.arena_sections.specs.Effects.{Books, goes-on, begins}
+use Rattle.arena_sections.specs.History.{Operation, Span, Kept, Held, Apart, Inside, KeptApart, KeptInside, noSpan, noKept, tempBy, outcomeOf, after, events, used, tailBy, effectOf, heldAfter, nothingHeld, opened, stateAfter, held}
 use Rattle.arena_sections.specs.OperationEffects.{has-effect}
 use Rattle.arena_sections.specs.Ordered.{Ordered}
 use Rattle.arena_sections.specs.Room.{usable-says}
-use Rattle.arena_sections.specs.Sections.{fresh, doneWith, usableLength, openCauses, openOf}
+use Rattle.arena_sections.specs.Sections.{fresh, doneOutcome, usableLength, openCauses, openOf}
 use Rattle.arena_sections.specs.declared.Outcome.{Outcome}
 use Rattle.arena_sections.specs.declared.Sections.{Sections}
 
@@ -58,7 +59,7 @@ opening-begins : (g start len : ℕ) → openOf g start len .answer .number ≡ 
 unfolding openOf
 opening-begins g start len =
     by-causes (λ (o : Outcome). o .answer .number ≡ done → Books (o .sections .usable) (o .sections) nothingHeld)
-    (openCauses g start len) (doneWith 0 (fresh (usableLength g start len)))
+    (openCauses g start len) (doneOutcome 0 (fresh (usableLength g start len)))
     ((λ e. absurd (omega arith)), tt)
     (λ n e. begins (usableLength g start len) (usable-says g start len (n .0) .1))
 

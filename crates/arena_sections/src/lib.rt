@@ -5,8 +5,8 @@ ghost use Rattle.arena_sections.specs.Sections.{
   baseAlignment,
   fresh as freshState,
   valid,
-  refusedWith,
-  doneWith,
+  refusedOutcome,
+  doneOutcome,
   openOf,
   allocationOf,
   persistentOf,
@@ -33,7 +33,7 @@ pub struct Outcome {
 impl Outcome {
     // Refused by a number; this state is handed back.
     fn refused(number: u32, sections: Sections) -> Outcome
-        ensures { λ r. ⌜ r ≡ refusedWith number sections ⌝ }
+        ensures { λ r. ⌜ r ≡ refusedOutcome number sections ⌝ }
     {
         Outcome {
             answer: Answer::refused(number),
@@ -43,7 +43,7 @@ impl Outcome {
 
     // Done, with the start of what was allocated and the next state.
     fn done(start: u32, sections: Sections) -> Outcome
-        ensures { λ r. ⌜ r ≡ doneWith start sections ⌝ }
+        ensures { λ r. ⌜ r ≡ doneOutcome start sections ⌝ }
     {
         Outcome {
             answer: Answer::done_at(start),

@@ -7,3 +7,4 @@ pub mod Replaced
 pub mod Causes
 pub mod Count
 pub mod InOrder
+pub mod Entries

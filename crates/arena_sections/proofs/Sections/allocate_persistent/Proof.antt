@@ -5,7 +5,7 @@ use native.Mathlib.Nat.{mod-le}
 use native.Mathlib.Omega.{arith}
 use borrow.Author.Needs.{needs}
 use Rattle.arena_sections.specs.Cases.{allocationNumber, alignment-some, start-by-gap, persistent-checked, persistent-too-large, persistent-no-room, persistent-room}
-use Rattle.arena_sections.specs.Sections.{baseAlignment, withTail, refusedWith, doneWith}
+use Rattle.arena_sections.specs.Sections.{baseAlignment, withTail, refusedOutcome, doneOutcome}
 use Rattle.arena_sections.proofs.Sections.allocate_persistent.Statement.{statement}
 use Rattle.arena_sections.proofs.Sections.allocate_persistent.Tie as tie
 
@@ -24,7 +24,7 @@ returns c =
     let e = c .before .before .check-allocation .ensures in
     let a = c .before .before .before .args in
     c .refused .ensures
-    ∙ ap (λ (n : ℕ). refusedWith n (a .self)) e
+    ∙ ap (λ (n : ℕ). refusedOutcome n (a .self)) e
     ∙ persistent-checked _ _ _ _ (λ z. c .before .if1 .taken (e ∙ z))
 
 refused-requires-2 : tie.Need-refused-requires-2
@@ -48,7 +48,7 @@ returns-3 c =
     let a = u .before .before .args in
     let e = start-by-gap (a .self) (a .size) (a .alignment) in
     c .done .ensures
-    ∙ ap (λ (start : ℕ). doneWith start (withTail (a .self) start)) e
+    ∙ ap (λ (start : ℕ). doneOutcome start (withTail (a .self) start)) e
     ∙ persistent-room _ _ _ _ (checked u) (omega arith) (omega (arith, e))
 
 refused-requires-3 : tie.Need-refused-requires-3

@@ -5,7 +5,7 @@ use native.Mathlib.Omega.{arith}
 use borrow.Author.Needs.{needs}
 use Rattle.alignment.specs.Rounding.{up-most}
 use Rattle.arena_sections.specs.Cases.{allocationNumber, temp-checked, temp-no-room, temp-room}
-use Rattle.arena_sections.specs.Sections.{baseAlignment, withTemp, refusedWith, doneWith}
+use Rattle.arena_sections.specs.Sections.{baseAlignment, withTemp, refusedOutcome, doneOutcome}
 use Rattle.arena_sections.proofs.Sections.allocate_temp.Statement.{statement}
 use Rattle.arena_sections.proofs.Sections.allocate_temp.Tie as tie
 
@@ -24,7 +24,7 @@ returns c =
     let e = c .before .before .check-allocation .ensures in
     let a = c .before .before .before .args in
     c .refused .ensures
-    ∙ ap (λ (n : ℕ). refusedWith n (a .self)) e
+    ∙ ap (λ (n : ℕ). refusedOutcome n (a .self)) e
     ∙ temp-checked _ _ _ _ (λ z. c .before .if1 .taken (e ∙ z))
 
 round-up-requires : tie.Need-round-up-requires
@@ -58,7 +58,7 @@ returns-3 c =
     let u = c .before .before .before in
     let a = u .before .before .before .args in
     c .done .ensures
-    ∙ ap (λ (start : ℕ). doneWith start (withTemp (a .self) (start + a .size))) (u .round-up .ensures)
+    ∙ ap (λ (start : ℕ). doneOutcome start (withTemp (a .self) (start + a .size))) (u .round-up .ensures)
     ∙ temp-room _ _ _ _ (checked (u .before)) (omega (arith, u .round-up .ensures))
 
 pub allocate-temp-spec : {M : Type 1} → statement M

@@ -5,7 +5,7 @@ use native.Mathlib.Omega.{arith}
 use borrow.Author.Needs.{needs}
 use Rattle.answer.specs.Answer.{sectionsNotValid}
 use Rattle.arena_sections.specs.Cases.{open-short, open-long, open-done}
-use Rattle.arena_sections.specs.Sections.{fresh, refusedWith, doneWith}
+use Rattle.arena_sections.specs.Sections.{fresh, refusedOutcome, doneOutcome}
 use Rattle.arena_sections.proofs.Sections.open.Statement.{statement}
 use Rattle.arena_sections.proofs.Sections.open.Tie as tie
 
@@ -24,7 +24,7 @@ refused-requires c κs = search needs
 returns : tie.Need-returns
 returns c =
     let u = c .before .before in
-    c .refused .ensures ∙ ap (refusedWith sectionsNotValid) (u .fresh .ensures) ∙ open-short _ _ _ (omega (arith, u .before .bytes-lost .ensures))
+    c .refused .ensures ∙ ap (refusedOutcome sectionsNotValid) (u .fresh .ensures) ∙ open-short _ _ _ (omega (arith, u .before .bytes-lost .ensures))
 
 cast-if2 : tie.Need-cast-if2
 cast-if2 c = search needs
@@ -36,7 +36,7 @@ returns-2 : tie.Need-returns-2
 returns-2 c =
     let u = c .before .before .before in
     let lost = u .before .bytes-lost .ensures in
-    c .refused2 .ensures ∙ ap (refusedWith sectionsNotValid) (u .fresh .ensures) ∙ open-long _ _ _ (omega (arith, lost)) (omega (arith, lost))
+    c .refused2 .ensures ∙ ap (refusedOutcome sectionsNotValid) (u .fresh .ensures) ∙ open-long _ _ _ (omega (arith, lost)) (omega (arith, lost))
 
 cast-fresh : tie.Need-cast-fresh
 cast-fresh c = search needs
@@ -52,7 +52,7 @@ returns-3 c =
     let u = c .before .before .before .before .before in
     let lost = u .bytes-lost .ensures in
     c .done .ensures
-    ∙ ap (doneWith 0) (c .before .fresh2 .ensures ∙ ap (λ (n : ℕ). fresh (u .before .args .length - n)) lost)
+    ∙ ap (doneOutcome 0) (c .before .fresh2 .ensures ∙ ap (λ (n : ℕ). fresh (u .before .args .length - n)) lost)
     ∙ open-done _ _ _ (omega (arith, lost)) (omega (arith, lost))
 
 pub open-spec : {M : Type 1} → statement M
