@@ -3,7 +3,7 @@
 use Prim.Native.Nat.{ℕ, _+_, _-_, _%_, _<_, _≤_}
 use mathlib.Core.Bool.{true, false}
 use mathlib.Core.Logic.{inl, inr}
-use mathlib.Core.Path.{_≡_, refl, sym, _∙_}
+use mathlib.Core.Path.{_≡_, refl, sym, _∙_, ap}
 use native.Mathlib.Omega.{arith}
 use borrow.Author.Tests.{lt-ltb, le-ltb, ne-eqb, eq-eqb, not-false}
 use Rattle.alignment.specs.Alignments.{loss, allowed, allowed-says, allowed-some}
@@ -69,12 +69,14 @@ module _ (g : ℕ) (s : Sections) (a : ℕ) where
   pub alignment-some : allocationNumber ≡ 0 → 0 < a
   alignment-some e = allowed-some g a (allowed-says g a (not-false (allowed g a) (allocation-passed e .1 .0)))
 
-  allocation-refusal : (allocationNumber ≡ 0 → ⊥) → refusedOutcome allocationNumber s ≡ allocationOf g s a
+  allocation-refusal : {n : ℕ} → n ≡ allocationNumber → (n ≡ 0 → ⊥) → refusedOutcome n s ≡ allocationOf g s a
   unfolding allocationOf
-  allocation-refusal =
-      by-causes (λ (o : Outcome). (numberOf o ≡ 0 → ⊥) → refusedOutcome (numberOf o) s ≡ o) (allocationCauses g s a) (doneOutcome 0 s)
-      ((λ h. refl), ((λ h. refl), tt))
-      (λ n h. absurd (h refl))
+  allocation-refusal e h =
+      ap (λ (n : ℕ). refusedOutcome n s) e
+      ∙ by-causes (λ (o : Outcome). (numberOf o ≡ 0 → ⊥) → refusedOutcome (numberOf o) s ≡ o) (allocationCauses g s a) (doneOutcome 0 s)
+      ((λ k. refl), ((λ k. refl), tt))
+      (λ n k. absurd (k refl))
+      (λ z. h (e ∙ z))
 
 -- ---- the allocations
 
@@ -84,18 +86,18 @@ start-by-gap s size a = omega (arith, down-rest a (s .tail - size))
 
 module _ (g : ℕ) (s : Sections) (size a : ℕ) where
   -- A refusal by 13 or 14 is the persistent allocation's,
-  pub persistent-checked : (allocationNumber g s a ≡ 0 → ⊥) → refusedOutcome (allocationNumber g s a) s ≡ persistentOf g s size a
+  pub persistent-checked : {n : ℕ} → n ≡ allocationNumber g s a → (n ≡ 0 → ⊥) → refusedOutcome n s ≡ persistentOf g s size a
   unfolding allocationOf persistentOf
-  persistent-checked h =
-      allocation-refusal g s a h
-      ∙ refused-stands numberOf (allocationCauses g s a) (persistentRoom s size a) (doneOutcome 0 s) (persistentDone s size a) refl h
+  persistent-checked e h =
+      allocation-refusal g s a e h
+      ∙ refused-stands numberOf (allocationCauses g s a) (persistentRoom s size a) (doneOutcome 0 s) (persistentDone s size a) refl (λ z. h (e ∙ z))
 
   -- and the temporary one's.
-  pub temp-checked : (allocationNumber g s a ≡ 0 → ⊥) → refusedOutcome (allocationNumber g s a) s ≡ tempOf g s size a
+  pub temp-checked : {n : ℕ} → n ≡ allocationNumber g s a → (n ≡ 0 → ⊥) → refusedOutcome n s ≡ tempOf g s size a
   unfolding allocationOf tempOf
-  temp-checked h =
-      allocation-refusal g s a h
-      ∙ refused-stands numberOf (allocationCauses g s a) (tempRoom s size a) (doneOutcome 0 s) (tempDone s size a) refl h
+  temp-checked e h =
+      allocation-refusal g s a e h
+      ∙ refused-stands numberOf (allocationCauses g s a) (tempRoom s size a) (doneOutcome 0 s) (tempDone s size a) refl (λ z. h (e ∙ z))
 
   -- Past them the room decides.
   module _ (p : allocationNumber g s a ≡ 0) where

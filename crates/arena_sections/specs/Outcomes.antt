@@ -92,45 +92,40 @@ module _ (g : ℕ) (s : Sections) (size a : ℕ) where
   lowest-start : 0 < a → LowestStart s a (tempStart s a)
   lowest-start h = record { aligned = up-multiple a (s .temp); above = up-holds a (s .temp) h; lowest = up-least a (s .temp) h }
 
-  -- a refusal by 13 or 14 is handed on by whichever allocation it is
-  handed-on : (n : ℕ) (o : Outcome) → n ≡ allocationNumber g s a → (n ≡ 0 → ⊥) → ((allocationNumber g s a ≡ 0 → ⊥) → refusedOutcome (allocationNumber g s a) s ≡ o)
-      → o .answer ≡ refused n
-  handed-on n o e f k = ap answerOf (sym (ap (λ (m : ℕ). refusedOutcome m s) e ∙ k (λ z. f (e ∙ z))))
+  -- the checks 13 and 14
+  data Checks : Type 0 where
+    not-valid : (Ordered s → ⊥) → sectionsNotValid ≡ allocationNumber g s a → Checks
+    not-allowed : Ordered s → (Allowed g a → ⊥) → badAlignment ≡ allocationNumber g s a → Checks
+    passed : Ordered s → Allowed g a → allocationNumber g s a ≡ 0 → Checks
+
+  checks : Checks
+  checks = go (valid s) (allowed g a) refl refl
+    where
+      go : (v w : Bool) → valid s ≡ v → allowed g a ≡ w → Checks
+      go false w v e = not-valid (λ o. contrary (valid-of s o) v) (allocation-not-valid g s a v)
+      go true false v e = not-allowed (valid-says s v) (λ p. contrary (allowed-of g a p) e) (allocation-not-allowed g s a v e)
+      go true true v e = passed (valid-says s v) (allowed-says g a e) (sym (allocation-passes g s a v e))
 
   -- A persistent allocation answers one of these.
   pub persistent : Persistent
-  persistent = go (valid s) (allowed g a) refl refl
+  persistent = go checks (lt-or-le (s .tail) size) (lt-or-le (persistentStart s size a) (s .temp))
     where
-      past : Ordered s → Allowed g a → allocationNumber g s a ≡ 0 → (s .tail < size) ⊎ (size ≤ s .tail) → (persistentStart s size a < s .temp) ⊎ (s .temp ≤ persistentStart s size a) → Persistent
-      past o p z (inl l) x = too-large o p l (ap answerOf (sym (persistent-too-large g s size a z l)))
-      past o p z (inr l) (inl m) = on-temporaries o p _ (highest-start (allowed-some g a p) l) m (ap answerOf (sym (persistent-no-room g s size a z l m)))
-      past o p z (inr l) (inr m) = kept o p _ (highest-start (allowed-some g a p) l) m (ap answerOf (sym (persistent-room g s size a z l m)))
-
-      go : (v w : Bool) → valid s ≡ v → allowed g a ≡ w → Persistent
-      go false w v e =
-          not-valid (λ o. contrary (valid-of s o) v)
-          (handed-on _ _ (allocation-not-valid g s a v) (λ z. omega arith) (persistent-checked g s size a))
-      go true false v e =
-          not-allowed (valid-says s v) (λ p. contrary (allowed-of g a p) e)
-          (handed-on _ _ (allocation-not-allowed g s a v e) (λ z. omega arith) (persistent-checked g s size a))
-      go true true v e = past (valid-says s v) (allowed-says g a e) (sym (allocation-passes g s a v e)) (lt-or-le _ _) (lt-or-le _ _)
+      go : Checks → (s .tail < size) ⊎ (size ≤ s .tail) → (persistentStart s size a < s .temp) ⊎ (s .temp ≤ persistentStart s size a) → Persistent
+      go (not-valid f e) x y = not-valid f (ap answerOf (sym (persistent-checked g s size a e (λ z. omega arith))))
+      go (not-allowed o f e) x y = not-allowed o f (ap answerOf (sym (persistent-checked g s size a e (λ z. omega arith))))
+      go (passed o p z) (inl l) y = too-large o p l (ap answerOf (sym (persistent-too-large g s size a z l)))
+      go (passed o p z) (inr l) (inl m) = on-temporaries o p _ (highest-start (allowed-some g a p) l) m (ap answerOf (sym (persistent-no-room g s size a z l m)))
+      go (passed o p z) (inr l) (inr m) = kept o p _ (highest-start (allowed-some g a p) l) m (ap answerOf (sym (persistent-room g s size a z l m)))
 
   -- A temporary allocation answers one of these.
   pub temporary : Temporary
-  temporary = go (valid s) (allowed g a) refl refl
+  temporary = go checks (lt-or-le (s .tail) (tempStart s a + size))
     where
-      past : Ordered s → Allowed g a → allocationNumber g s a ≡ 0 → (s .tail < tempStart s a + size) ⊎ (tempStart s a + size ≤ s .tail) → Temporary
-      past o p z (inl l) = over-tail o p _ (lowest-start (allowed-some g a p)) l (ap answerOf (sym (temp-no-room g s size a z l)))
-      past o p z (inr l) = borrowed o p _ (lowest-start (allowed-some g a p)) l (ap answerOf (sym (temp-room g s size a z l)))
-
-      go : (v w : Bool) → valid s ≡ v → allowed g a ≡ w → Temporary
-      go false w v e =
-          not-valid (λ o. contrary (valid-of s o) v)
-          (handed-on _ _ (allocation-not-valid g s a v) (λ z. omega arith) (temp-checked g s size a))
-      go true false v e =
-          not-allowed (valid-says s v) (λ p. contrary (allowed-of g a p) e)
-          (handed-on _ _ (allocation-not-allowed g s a v e) (λ z. omega arith) (temp-checked g s size a))
-      go true true v e = past (valid-says s v) (allowed-says g a e) (sym (allocation-passes g s a v e)) (lt-or-le _ _)
+      go : Checks → (s .tail < tempStart s a + size) ⊎ (tempStart s a + size ≤ s .tail) → Temporary
+      go (not-valid f e) x = not-valid f (ap answerOf (sym (temp-checked g s size a e (λ z. omega arith))))
+      go (not-allowed o f e) x = not-allowed o f (ap answerOf (sym (temp-checked g s size a e (λ z. omega arith))))
+      go (passed o p z) (inl l) = over-tail o p _ (lowest-start (allowed-some g a p)) l (ap answerOf (sym (temp-no-room g s size a z l)))
+      go (passed o p z) (inr l) = borrowed o p _ (lowest-start (allowed-some g a p)) l (ap answerOf (sym (temp-room g s size a z l)))
 
 -- ---- the reset, and setting the head
 

@@ -22,30 +22,50 @@ use Rattle.arena_sections.specs.declared.Sections.{Sections}
 abbrev pub headSpan : ℕ → Span
 headSpan head = record { start = 0; size = head }
 
--- The law, of the state after a history and what the history holds.
-pub record SoundHistory (g start len : ℕ) (ops : List Operation) : Type 0 where
+-- What is so of a state of an arena with a usable length, and of what its history holds.
+pub record Sound (usable : ℕ) (s : Sections) (h : Held) : Type 0 where
   -- usable − tail is the sum over the accepted keeps of size and gap
-  pub sum : opened g start len .usable ≡ stateAfter g start len ops .tail + used (held g start len ops .kept)
+  pub sum : usable ≡ s .tail + used (h .kept)
   -- no two kept spans share a byte
-  pub kept-apart : EachTwo KeptApart (held g start len ops .kept) noKept
+  pub kept-apart : EachTwo KeptApart (h .kept) noKept
   -- none meets the head
-  pub kept-off-head : Each (λ (k : Kept). Apart (k .span) (headSpan (stateAfter g start len ops .head))) (held g start len ops .kept) noKept
+  pub kept-off-head : Each (λ (k : Kept). Apart (k .span) (headSpan (s .head))) (h .kept) noKept
   -- none meets a borrowed span that has not been reset
-  pub kept-off-borrowed : Each (λ (k : Kept). Each (Apart (k .span)) (held g start len ops .borrowed) noSpan) (held g start len ops .kept) noKept
+  pub kept-off-borrowed : Each (λ (k : Kept). Each (Apart (k .span)) (h .borrowed) noSpan) (h .kept) noKept
   -- no two borrowed spans that are out share a byte
-  pub borrowed-apart : EachTwo Apart (held g start len ops .borrowed) noSpan
+  pub borrowed-apart : EachTwo Apart (h .borrowed) noSpan
   -- none meets the head
-  pub borrowed-off-head : Each (λ (x : Span). Apart x (headSpan (stateAfter g start len ops .head))) (held g start len ops .borrowed) noSpan
+  pub borrowed-off-head : Each (λ (x : Span). Apart x (headSpan (s .head))) (h .borrowed) noSpan
   -- no span leaves the usable part
-  pub kept-inside : Each (KeptInside 0 (opened g start len .usable)) (held g start len ops .kept) noKept
-  pub borrowed-inside : Each (Inside 0 (opened g start len .usable)) (held g start len ops .borrowed) noSpan
+  pub kept-inside : Each (KeptInside 0 usable) (h .kept) noKept
+  pub borrowed-inside : Each (Inside 0 usable) (h .borrowed) noSpan
   -- the state is what the history says: the head, where the temporaries end, where persistent memory starts
-  pub head-is : stateAfter g start len ops .head ≡ held g start len ops .head
-  pub temp-is : stateAfter g start len ops .temp ≡ tempBy (held g start len ops .head) (held g start len ops .borrowed)
-  pub tail-is : stateAfter g start len ops .tail ≡ tailBy (opened g start len .usable) (held g start len ops .kept)
-  -- after each of the operations, the first k of them, the state is valid, and usable is the opening's
+  pub head-is : s .head ≡ h .head
+  pub temp-is : s .temp ≡ tempBy (h .head) (h .borrowed)
+  pub tail-is : s .tail ≡ tailBy usable (h .kept)
+
+-- The law: after an opening and operations, the state is sound; and after each of the operations, the first k of them, it is valid with the opening's usable.
+pub record SoundHistory (g start len : ℕ) (ops : List Operation) : Type 0 where
+  pub sound : Sound (opened g start len .usable) (stateAfter g start len ops) (held g start len ops)
   pub each-valid : (k : ℕ) → Ordered (stateAfter g start len (take k ops))
   pub each-usable : (k : ℕ) → stateAfter g start len (take k ops) .usable ≡ opened g start len .usable
+
+-- What agreeing books say.
+books-sound : {usable : ℕ} {s : Sections} {h : Held} → Books usable s h → Sound usable s h
+books-sound b =
+    record {
+      sum = b .sum;
+      kept-apart = b .kept-apart;
+      kept-off-head = λ i m byte x y. omega (arith, b .kept-inside i m byte x .0, y .below, b .ordered);
+      kept-off-borrowed = λ i m j n byte x y. omega (arith, b .kept-inside i m byte x .0, b .borrowed-inside j n byte y .1, b .ordered);
+      borrowed-apart = b .borrowed-apart;
+      borrowed-off-head = λ i m byte x y. omega (arith, b .borrowed-inside i m byte x .0, y .below);
+      kept-inside = λ i m byte x. (omega arith, b .kept-inside i m byte x .1);
+      borrowed-inside = λ i m byte x. (omega arith, omega (arith, b .borrowed-inside i m byte x .1, b .ordered, b .same-usable));
+      head-is = b .head-is;
+      temp-is = b .temp-is;
+      tail-is = b .tail-is;
+    }
 
 module _ (g usable : ℕ) where
   -- The books agree after every operation.
@@ -67,23 +87,10 @@ opening-begins g start len =
 pub sound-history : (g start len : ℕ) (ops : List Operation) → openOf g start len .answer .number ≡ done → SoundHistory g start len ops
 sound-history g start len ops a =
     record {
-      sum = b .sum;
-      kept-apart = b .kept-apart;
-      kept-off-head = λ i m byte x y. omega (arith, b .kept-inside i m byte x .0, y .below, b .ordered);
-      kept-off-borrowed = λ i m j n byte x y. omega (arith, b .kept-inside i m byte x .0, b .borrowed-inside j n byte y .1, b .ordered);
-      borrowed-apart = b .borrowed-apart;
-      borrowed-off-head = λ i m byte x y. omega (arith, b .borrowed-inside i m byte x .0, y .below);
-      kept-inside = λ i m byte x. (omega arith, b .kept-inside i m byte x .1);
-      borrowed-inside = λ i m byte x. (omega arith, omega (arith, b .borrowed-inside i m byte x .1, b .ordered, b .same-usable));
-      head-is = b .head-is;
-      temp-is = b .temp-is;
-      tail-is = b .tail-is;
+      sound = books-sound (books ops);
       each-valid = λ k. books (take k ops) .ordered;
       each-usable = λ k. books (take k ops) .same-usable;
     }
   where
     books : (os : List Operation) → Books (opened g start len .usable) (stateAfter g start len os) (held g start len os)
     books os = runs g (opened g start len .usable) os (opened g start len) nothingHeld (opening-begins g start len a)
-
-    b : Books (opened g start len .usable) (stateAfter g start len ops) (held g start len ops)
-    b = books ops

@@ -5,7 +5,7 @@ use native.Mathlib.Nat.{mod-le}
 use native.Mathlib.Omega.{arith}
 use borrow.Author.Needs.{needs}
 use Rattle.arena_sections.specs.Cases.{allocationNumber, alignment-some, start-by-gap, persistent-checked, persistent-too-large, persistent-no-room, persistent-room}
-use Rattle.arena_sections.specs.Sections.{baseAlignment, withTail, refusedOutcome, doneOutcome}
+use Rattle.arena_sections.specs.Sections.{baseAlignment, withTail, doneOutcome}
 use Rattle.arena_sections.proofs.Sections.allocate_persistent.Statement.{statement}
 use Rattle.arena_sections.proofs.Sections.allocate_persistent.Tie as tie
 
@@ -20,12 +20,7 @@ refused-requires : tie.Need-refused-requires
 refused-requires c κs = search needs
 
 returns : tie.Need-returns
-returns c =
-    let e = c .before .before .check-allocation .ensures in
-    let a = c .before .before .before .args in
-    c .refused .ensures
-    ∙ ap (λ (n : ℕ). refusedOutcome n (a .self)) e
-    ∙ persistent-checked _ _ _ _ (λ z. c .before .if1 .taken (e ∙ z))
+returns c = c .refused .ensures ∙ persistent-checked _ _ _ _ (c .before .before .check-allocation .ensures) (c .before .if1 .taken)
 
 refused-requires-2 : tie.Need-refused-requires-2
 refused-requires-2 c κs = search needs

@@ -5,7 +5,7 @@ use native.Mathlib.Omega.{arith}
 use borrow.Author.Needs.{needs}
 use Rattle.alignment.specs.Rounding.{up-most}
 use Rattle.arena_sections.specs.Cases.{allocationNumber, temp-checked, temp-no-room, temp-room}
-use Rattle.arena_sections.specs.Sections.{baseAlignment, withTemp, refusedOutcome, doneOutcome}
+use Rattle.arena_sections.specs.Sections.{baseAlignment, withTemp, doneOutcome}
 use Rattle.arena_sections.proofs.Sections.allocate_temp.Statement.{statement}
 use Rattle.arena_sections.proofs.Sections.allocate_temp.Tie as tie
 
@@ -20,12 +20,7 @@ refused-requires : tie.Need-refused-requires
 refused-requires c κs = search needs
 
 returns : tie.Need-returns
-returns c =
-    let e = c .before .before .check-allocation .ensures in
-    let a = c .before .before .before .args in
-    c .refused .ensures
-    ∙ ap (λ (n : ℕ). refusedOutcome n (a .self)) e
-    ∙ temp-checked _ _ _ _ (λ z. c .before .if1 .taken (e ∙ z))
+returns c = c .refused .ensures ∙ temp-checked _ _ _ _ (c .before .before .check-allocation .ensures) (c .before .if1 .taken)
 
 round-up-requires : tie.Need-round-up-requires
 round-up-requires c κs = search needs
