@@ -1,5 +1,5 @@
 -- A number above 0 is a power of two exactly when it shares no bit with the number before it.
-use Prim.Native.Nat.{ℕ, zero, suc, _-_, _*_, _/_, _%_, _^_, _<_, _≤_, min}
+use Prim.Native.Nat.{ℕ, zero, suc, _-_, _*_, _/_, _%_, _^_, _<_, _≤_}
 use mathlib.Core.Bool.{Bool, true, false, _&&_}
 use mathlib.Core.Logic.{_⊎_, inl, inr}
 use mathlib.Core.Path.{_≡_, refl, ap}
@@ -9,7 +9,7 @@ use borrow.Author.Tests.{eq-eqb, eqb-true}
 use lib.Bits.{bitAnd, and-step, and-self, and-mask}
 use lib.Dec.{eqb, leb}
 use Rattle.alignment.specs.Alignments.{allowed, allowed-says, allowed-some}
-use Rattle.alignment.specs.Powers.{isPowerOfTwo, PowerOfTwo, power-says, power-of}
+use Rattle.alignment.specs.Powers.{PowerOfTwo, power-says, power-of}
 use Rattle.bounded.specs.Boolean.{lt-or-le, same-test}
 
 no-shared-bit : (n : ℕ) → PowerOfTwo n → bitAnd n (n - 1) ≡ 0

@@ -1,14 +1,14 @@
 -- Powers of two.
 --     isPowerOfTwo n     whether n is 2 ^ k for some k
 -- A reader believes it by `power-says` and `power-of`, which mention no search.
-use Prim.Native.Nat.{ℕ, zero, suc, _^_, _<_, _≤_}
+use Prim.Native.Nat.{ℕ, zero, suc, _^_, _<_}
 use mathlib.Core.Bool.{Bool, true}
-use mathlib.Core.Path.{_≡_, refl, sym, subst}
+use mathlib.Core.Path.{_≡_, sym, subst}
 use native.Mathlib.Nat.{one-le-pow, two-pow-succ}
 use native.Mathlib.Omega.{arith}
 use borrow.Author.Tests.{eq-eqb, eqb-true}
 use lib.Dec.{eqb}
-use Rattle.bounded.specs.First.{firstIn, holdsBelow, found, some-found}
+use Rattle.bounded.specs.First.{holdsBelow, found, some-found}
 
 -- Whether a number is a power of two; its exponent is then below it.
 unfoldable pub isPowerOfTwo : ℕ → Bool

@@ -9,10 +9,10 @@ use borrow.Author.Tests.{lt-ltb, le-ltb, ne-eqb, eq-eqb, not-false}
 use Rattle.alignment.specs.Alignments.{loss, allowed, allowed-says, allowed-some}
 use Rattle.alignment.specs.Rounding.{down-rest}
 use Rattle.answer.specs.Answer.{sectionsNotValid, badAlignment, noRoom, temporariesOut, headMadeSmaller}
-use Rattle.bounded.specs.Causes.{NoneHolds, AllRefuse, firstCause, follows-more, by-causes, passed, refused-stands}
+use Rattle.bounded.specs.Causes.{NoneHolds, firstCause, follows-more, by-causes, passed, refused-stands}
 use Rattle.arena_sections.specs.Room.{not-usable-of, usable-of, full-of, room-of, temp-full-of, temp-room-of}
 use Rattle.arena_sections.specs.SoundHistory as SoundHistory
-use Rattle.arena_sections.specs.Sections.{greatestLength, zeros, fresh, valid, withTemp, withHead, refusedOutcome, doneOutcome, usableLength, openOf, stateCauses, allocationCauses, allocationOf, persistentStart, persistentRoom, persistentDone, persistentOf, tempStart, tempRoom, tempDone, tempOf, resetOf, headCauses, headOf}
+use Rattle.arena_sections.specs.Sections.{greatestLength, zeros, fresh, valid, withTemp, withHead, refusedOutcome, doneOutcome, usableLength, openOf, allocationCauses, allocationOf, persistentStart, persistentRoom, persistentDone, persistentOf, tempStart, tempRoom, tempDone, tempOf, resetOf, headOf}
 use Rattle.arena_sections.specs.declared.Outcome.{Outcome}
 use Rattle.arena_sections.specs.declared.Sections.{Sections}
 

@@ -1,5 +1,5 @@
 -- Law: what a valid state is, in plain terms.
-use Prim.Native.Nat.{ℕ, _≤_}
+use Prim.Native.Nat.{_≤_}
 use mathlib.Core.Bool.{true, _&&_}
 use mathlib.Core.Path.{_≡_}
 use borrow.Author.Tests.{leb-true, le-leb}

@@ -4,7 +4,7 @@ use Prim.Native.Nat.{ℕ, _+_, _-_, _%_, _<_, _≤_}
 use mathlib.Core.Bool.{Bool, true, false}
 use mathlib.Core.List.{_++_}
 use mathlib.Core.Logic.{_⊎_, inl, inr}
-use mathlib.Core.Path.{_≡_, refl, sym, _∙_, ap}
+use mathlib.Core.Path.{_≡_, refl, sym, ap}
 use native.Mathlib.Omega.{arith}
 use Rattle.alignment.specs.Alignments.{Allowed, loss, allowed, allowed-says, allowed-of, allowed-some, loss-reaches, loss-least}
 use Rattle.alignment.specs.Rounding.{up-multiple, up-holds, up-least, down-multiple, down-within, down-greatest}

@@ -1,6 +1,6 @@
 -- `alignment::bytes_lost` meets its contract.
-use Prim.Native.Nat.{_<_}
-use mathlib.Core.Path.{refl}
+use Prim.Native.Nat.{_-_, _%_, _<_}
+use mathlib.Core.Path.{refl, sym, _∙_}
 use native.Mathlib.Nat.{mod-lt, mod-zero, zero-sub}
 use native.Mathlib.Omega.{arith}
 use borrow.Author.Needs.{needs}
@@ -10,7 +10,7 @@ use Rattle.alignment.proofs.bytes_lost.Tie as tie
 
 returns : tie.Need-returns
 unfolding loss
-returns c = rw (c .if1 .taken, mod-zero, zero-sub)
+returns c = let over = c .before .args .start % 0 in rw (c .if1 .taken) (sym (mod-zero (0 - over) ∙ zero-sub over))
 
 rem-over : tie.Need-rem-over
 rem-over c = search needs
