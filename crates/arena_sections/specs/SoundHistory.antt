@@ -3,13 +3,13 @@
 -- span not yet reset." It holds on any grid, after any accepted opening and any list of operations with any arguments, refused ones among them.
 use Prim.Native.Nat.{ℕ, _+_}
 use mathlib.Core.List.{List, [], _∷_}
-use mathlib.Core.Path.{_≡_}
+use mathlib.Core.Path.{_≡_, _∙_, ap}
 use native.Mathlib.Omega.{arith}
 use lib.ListN.{take}
 use Rattle.answer.specs.Answer.{done}
 use Rattle.bounded.specs.Causes.{by-causes}
 use Rattle.bounded.specs.Entries.{Each, EachTwo}
-use Rattle.arena_sections.specs.Effects.{Books, goes-on, begins}
+use Rattle.arena_sections.specs.Effects.{Keeping, Borrowing, Books, goes-on, begins}
 use Rattle.arena_sections.specs.History.{Operation, Span, Kept, Held, Apart, Inside, KeptApart, KeptInside, noSpan, noKept, tempBy, outcomeOf, after, events, used, tailBy, effectOf, heldAfter, nothingHeld, opened, stateAfter, held}
 use Rattle.arena_sections.specs.OperationEffects.{has-effect}
 use Rattle.arena_sections.specs.Ordered.{Ordered}
@@ -52,27 +52,33 @@ pub record SoundHistory (g start len : ℕ) (ops : List Operation) : Type 0 wher
 
 -- What agreeing books say.
 books-sound : {usable : ℕ} {s : Sections} {h : Held} → Books usable s h → Sound usable s h
-books-sound b =
+books-sound {usable} {s} {h} b =
     record {
-      sum = b .sum;
-      kept-apart = b .kept-apart;
-      kept-off-head = λ i m byte x y. omega (arith, b .kept-inside i m byte x .0, y .below, b .ordered);
-      kept-off-borrowed = λ i m j n byte x y. omega (arith, b .kept-inside i m byte x .0, b .borrowed-inside j n byte y .1, b .ordered);
-      borrowed-apart = b .borrowed-apart;
-      borrowed-off-head = λ i m byte x y. omega (arith, b .borrowed-inside i m byte x .0, y .below);
-      kept-inside = λ i m byte x. (omega arith, b .kept-inside i m byte x .1);
-      borrowed-inside = λ i m byte x. (omega arith, omega (arith, b .borrowed-inside i m byte x .1, b .ordered, b .same-usable));
+      sum = kept .sum;
+      kept-apart = kept .apart;
+      kept-off-head = λ i m byte x y. omega (arith, kept .inside i m byte x .0, y .below, b .ordered);
+      kept-off-borrowed = λ i m j n byte x y. omega (arith, kept .inside i m byte x .0, out .inside j n byte y .1, b .ordered);
+      borrowed-apart = out .apart;
+      borrowed-off-head = λ i m byte x y. omega (arith, out .inside i m byte x .0, y .below);
+      kept-inside = λ i m byte x. (omega arith, kept .inside i m byte x .1);
+      borrowed-inside = λ i m byte x. (omega arith, omega (arith, out .inside i m byte x .1, b .ordered, b .same-usable));
       head-is = b .head-is;
-      temp-is = b .temp-is;
-      tail-is = b .tail-is;
+      temp-is = out .temp-is ∙ ap (λ (head : ℕ). tempBy head (h .borrowed)) (b .head-is);
+      tail-is = kept .tail-is;
     }
+  where
+    kept : Keeping usable (s .tail) (h .kept)
+    kept = b .keeping
+
+    out : Borrowing (s .head) (s .temp) (h .borrowed)
+    out = b .borrowing
 
 module _ (g usable : ℕ) where
   -- The books agree after every operation.
   runs : (ops : List Operation) (s : Sections) (h : Held) → Books usable s h → Books usable (after g s ops) (heldAfter usable h (events g s ops))
   unfolding after events heldAfter
   runs [] s h b = b
-  runs (op ∷ ops) s h b = runs ops (outcomeOf g s op .sections) _ (goes-on (effectOf (tailBy usable (h .kept)) (record { operation = op; answer = outcomeOf g s op .answer })) b (rw (← b .tail-is) (has-effect g s op)))
+  runs (op ∷ ops) s h b = runs ops (outcomeOf g s op .sections) _ (goes-on (effectOf (tailBy usable (h .kept)) (record { operation = op; answer = outcomeOf g s op .answer })) b (rw (← b .keeping .tail-is) (has-effect g s op)))
 
 -- An accepted opening begins books that agree.
 opening-begins : (g start len : ℕ) → openOf g start len .answer .number ≡ done → Books (opened g start len .usable) (opened g start len) nothingHeld
