@@ -3,4 +3,3 @@ pub mod Answers
 pub mod FirstEntries
 pub mod ExactRule
 pub mod Outcomes
-pub mod PlannerAccepted

@@ -6,6 +6,7 @@ use native.Mathlib.Nat.{div-add-mod'}
 use native.Mathlib.Omega.{arith}
 use lib.IntN.{ℤ, pos}
 use lib.ListN.{length}
+use Rattle.alignment.specs.Rounding.{up-something}
 use Rattle.answer.specs.Answer.{doneWith}
 use Rattle.words.specs.Words.{natural}
 use Rattle.words.specs.WordOrders.{within}
@@ -14,15 +15,14 @@ use Rattle.request_table.specs.Colliding.{Colliding}
 use Rattle.request_table.specs.GoodRows.{good-offset}
 use Rattle.request_table.specs.Limits.{greatestSpace}
 use Rattle.request_table.specs.Needs.{need-same}
-use Rattle.alignment.specs.Rounding.{up-something}
 use Rattle.request_table.specs.Table.{rows, word, request, fixedOffset}
 use Rattle.request_table.specs.WellFormed.{passed-is-well-formed}
 use Rattle.greedy_rule.specs.Answers.{Done, done-says}
 use Rattle.greedy_rule.specs.DonePlans.{DonePlan, done-plan}
 use Rattle.greedy_rule.specs.Greedy.{greedyPlan}
 use Rattle.greedy_rule.specs.Plan.{greedyNeed, planOf, plannedTable}
 use Rattle.inspection_rule.specs.ExactRule.{Acceptable, fixed-of, own-offset, accepted-exactly, accepted-needs}
 use Rattle.inspection_rule.specs.Inspect.{proposed, proposedNeed, inspectOf}
 
 module _ (g : ℕ) (t : List ℤ) (space : ℕ) (lent : List ℤ) (h : 0 < g) (e : planOf g t space (length lent) .number ≡ 0) where
   -- the table that the planner leaves
