@@ -26,8 +26,7 @@ module _ (s : Sections) (size a : ℕ) where
   pub full-says : persistentFull s size a ≡ true → (s .tail < size) ⊎ (persistentStart s size a < s .temp)
   unfolding persistentFull
   full-says e =
-      told (ltb (s .tail) size) (ltb (persistentStart s size a) (s .temp)) _ _ (ltb-true _ _) (ltb-true _ _)
-      (either (ltb (s .tail) size) (ltb (persistentStart s size a) (s .temp)) e)
+      told _ _ (s .tail < size) (persistentStart s size a < s .temp) (ltb-true _ _) (ltb-true _ _) (either _ _ e)
 
   -- and where it is not,
   pub room-says : persistentFull s size a ≡ false → (size ≤ s .tail) × (s .temp ≤ persistentStart s size a)

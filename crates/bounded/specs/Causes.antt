@@ -45,15 +45,6 @@ module _ {A : Type 0} where
   follows-more [] ds d f = refl
   follows-more (c ∷ cs) ds d f = rw (f .0, firstCause) (follows-more cs ds d (f .1))
 
-  -- What is so of every cause's answer, and of what follows where no cause holds, is so of the answer.
-  pub by-causes : (So : A → Type 0) (cs : List (Cause A)) (d : A) → AllGive So cs → (NoneHolds cs → So d) → So (firstCause cs d)
-  by-causes So [] d f e = e tt
-  by-causes So (c ∷ cs) d f e = go (c .holds) refl (by-causes So cs d (f .1))
-    where
-      go : (b : Bool) → c .holds ≡ b → ((NoneHolds cs → So d) → So (firstCause cs d)) → So (elim b [ true ↦ c .gives | false ↦ firstCause cs d ])
-      go true q k = f .0
-      go false q k = k (λ n. e (q, n))
-
 module _ {A : Type 0} (number : A → ℕ) where
   -- A refusal of the first list stands, whatever follows.
   pub refused-stands : (cs ds : List (Cause A)) (d e : A) → number d ≡ 0 → (number (firstCause cs d) ≡ 0 → ⊥) → firstCause cs d ≡ firstCause (cs ++ ds) e
@@ -75,3 +66,13 @@ module _ {A : Type 0} (number : A → ℕ) where
           → (number (firstCause cs d) ≡ 0 → NoneHolds cs × (number d ≡ 0)) → NoneHolds (c ∷ cs) × (number d ≡ 0)
       go true q h k = absurd (f .0 h)
       go false q h k = ((q, k h .0), k h .1)
+
+module _ {A : Type 0} where
+  -- What is so of every cause's answer, and of what follows where no cause holds, is so of the answer.
+  pub by-causes : (So : A → Type 0) (cs : List (Cause A)) (d : A) → AllGive So cs → (NoneHolds cs → So d) → So (firstCause cs d)
+  by-causes So [] d f e = e tt
+  by-causes So (c ∷ cs) d f e = go (c .holds) refl (by-causes So cs d (f .1))
+    where
+      go : (b : Bool) → c .holds ≡ b → ((NoneHolds cs → So d) → So (firstCause cs d)) → So (elim b [ true ↦ c .gives | false ↦ firstCause cs d ])
+      go true q k = f .0
+      go false q k = k (λ n. e (q, n))
