@@ -11,10 +11,7 @@ proposed-at-requires : tie.Need-proposed-at-requires
 proposed-at-requires c κs = search needs
 
 returns : tie.Need-returns
-returns c =
-    let u = c .before .before .before in
-    let a = u .before .before .args in
-    moved-is (a .table .now) (a .offsets .now) (a .row .0) (u .before .request-at .ensures) (u .proposed-at .ensures .0)
+returns c = search (moved-is, needs)
 
 pub is-moved-spec : {M : Type 1} → statement M
 is-moved-spec = tie.close (tie.spec request-at-requires proposed-at-requires returns)
