@@ -29,9 +29,9 @@ module _ (g start length : ℕ) where
   open-short l = rw (not-usable-of g start length (inl l), firstCause)
 
   -- Too long.
-  pub open-long : loss g start ≤ length → greatestLength < usableLength g start length → refusedOutcome sectionsNotValid zeros ≡ openOf g start length
+  pub open-long : greatestLength < usableLength g start length → refusedOutcome sectionsNotValid zeros ≡ openOf g start length
   unfolding openOf
-  open-long l m = rw (not-usable-of g start length (inr m), firstCause)
+  open-long m = rw (not-usable-of g start length (inr m), firstCause)
 
   -- Opened.
   pub open-done : loss g start ≤ length → usableLength g start length ≤ greatestLength → doneOutcome 0 (fresh (usableLength g start length)) ≡ openOf g start length
@@ -114,8 +114,8 @@ module _ (g : ℕ) (s : Sections) (size a : ℕ) where
     persistent-too-large l = (rw (full-of s size a (inl l), firstCause)) ∙ persistent-decides
 
     -- Into the temporaries.
-    pub persistent-no-room : size ≤ s .tail → persistentStart s size a < s .temp → refusedOutcome noRoom s ≡ persistentOf g s size a
-    persistent-no-room l m = (rw (full-of s size a (inr m), firstCause)) ∙ persistent-decides
+    pub persistent-no-room : persistentStart s size a < s .temp → refusedOutcome noRoom s ≡ persistentOf g s size a
+    persistent-no-room m = (rw (full-of s size a (inr m), firstCause)) ∙ persistent-decides
 
     -- There is room.
     pub persistent-room : size ≤ s .tail → s .temp ≤ persistentStart s size a → persistentDone s size a ≡ persistentOf g s size a

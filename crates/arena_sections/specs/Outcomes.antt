@@ -46,7 +46,7 @@ module _ (g start length : ℕ) where
 
       go : (length < loss g start) ⊎ (loss g start ≤ length) → (greatestLength < length - loss g start) ⊎ (length - loss g start ≤ greatestLength) → Opening
       go (inl l) x = too-short (loss g start) lost l (sym (open-short g start length l))
-      go (inr l) (inl m) = too-long (loss g start) (length - loss g start) lost (omega arith) m (sym (open-long g start length l m))
+      go (inr l) (inl m) = too-long (loss g start) (length - loss g start) lost (omega arith) m (sym (open-long g start length m))
       go (inr l) (inr m) = opened (loss g start) (length - loss g start) lost (omega arith) m (sym (open-done g start length l m))
 
 -- ---- where allocations start
@@ -114,7 +114,7 @@ module _ (g : ℕ) (s : Sections) (size a : ℕ) where
       go (not-valid f e) x y = not-valid f (ap answerOf (sym (persistent-checked g s size a e (λ z. omega arith))))
       go (not-allowed o f e) x y = not-allowed o f (ap answerOf (sym (persistent-checked g s size a e (λ z. omega arith))))
       go (passed o p z) (inl l) y = too-large o p l (ap answerOf (sym (persistent-too-large g s size a z l)))
-      go (passed o p z) (inr l) (inl m) = on-temporaries o p _ (highest-start (allowed-some g a p) l) m (ap answerOf (sym (persistent-no-room g s size a z l m)))
+      go (passed o p z) (inr l) (inl m) = on-temporaries o p _ (highest-start (allowed-some g a p) l) m (ap answerOf (sym (persistent-no-room g s size a z m)))
       go (passed o p z) (inr l) (inr m) = kept o p _ (highest-start (allowed-some g a p) l) m (ap answerOf (sym (persistent-room g s size a z l m)))
 
   -- A temporary allocation answers one of these.

@@ -1,7 +1,7 @@
 -- Law: what the tests of room say, in plain terms and both ways. Every other law and the code's proofs go by these.
 use Prim.Native.Nat.{ℕ, _+_, _<_, _≤_}
 use mathlib.Core.Bool.{Bool, true, false}
-use mathlib.Core.Logic.{_⊎_, inl, inr}
+use mathlib.Core.Logic.{_⊎_, inl, inr, ⊎-map}
 use mathlib.Core.Path.{_≡_, refl}
 use native.Mathlib.Omega.{arith}
 use borrow.Author.Tests.{ltb-true, ltb-false, lt-ltb, le-ltb}
@@ -10,11 +10,6 @@ use Rattle.alignment.specs.Alignments.{loss}
 use Rattle.bounded.specs.Boolean.{either, neither, neither-holds}
 use Rattle.arena_sections.specs.Sections.{greatestLength, usableLength, notUsable, persistentStart, persistentFull, tempStart, tempFull}
 use Rattle.arena_sections.specs.declared.Sections.{Sections}
-
--- Two tests of which one must hold, each told as a fact.
-told : (x y : Bool) (X Y : Type 0) → (x ≡ true → X) → (y ≡ true → Y) → (x ≡ true) ⊎ (y ≡ true) → X ⊎ Y
-told x y X Y f g (inl e) = inl (f e)
-told x y X Y f g (inr e) = inr (g e)
 
 -- A test that is refuted by what its failing says.
 refuted : (x : Bool) → (x ≡ false → ⊥) → x ≡ true
@@ -25,8 +20,7 @@ module _ (s : Sections) (size a : ℕ) where
   -- "15 exactly if size > tail or start < temp": where it is given,
   pub full-says : persistentFull s size a ≡ true → (s .tail < size) ⊎ (persistentStart s size a < s .temp)
   unfolding persistentFull
-  full-says e =
-      told _ _ (s .tail < size) (persistentStart s size a < s .temp) (ltb-true _ _) (ltb-true _ _) (either _ _ e)
+  full-says e = ⊎-map (ltb-true (s .tail) size) (ltb-true (persistentStart s size a) (s .temp)) (either _ _ e)
 
   -- and where it is not,
   pub room-says : persistentFull s size a ≡ false → (size ≤ s .tail) × (s .temp ≤ persistentStart s size a)

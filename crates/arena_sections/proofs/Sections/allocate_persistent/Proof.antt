@@ -53,7 +53,7 @@ returns-4 : tie.Need-returns-4
 returns-4 c =
     let u = c .before .before .before .before .before .before .before in
     let a = u .before .before .args in
-    c .refused3 .ensures ∙ persistent-no-room _ _ _ _ (checked u) (omega arith) (omega (arith, start-by-gap (a .self) (a .size) (a .alignment)))
+    c .refused3 .ensures ∙ persistent-no-room _ _ _ _ (checked u) (omega (arith, start-by-gap (a .self) (a .size) (a .alignment)))
 
 pub allocate-persistent-spec : {M : Type 1} → statement M
 allocate-persistent-spec =

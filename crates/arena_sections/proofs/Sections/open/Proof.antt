@@ -36,7 +36,7 @@ returns-2 : tie.Need-returns-2
 returns-2 c =
     let u = c .before .before .before in
     let lost = u .before .bytes-lost .ensures in
-    c .refused2 .ensures ∙ ap (refusedOutcome sectionsNotValid) (u .fresh .ensures) ∙ open-long _ _ _ (omega (arith, lost)) (omega (arith, lost))
+    c .refused2 .ensures ∙ ap (refusedOutcome sectionsNotValid) (u .fresh .ensures) ∙ open-long _ _ _ (omega (arith, lost))
 
 cast-fresh : tie.Need-cast-fresh
 cast-fresh c = search needs
