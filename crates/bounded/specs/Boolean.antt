@@ -46,6 +46,11 @@ pub neither-holds : (x y : Bool) → x ≡ false → y ≡ false → x || y ≡ 
 neither-holds true y p q = p
 neither-holds false y p q = q
 
+-- A test that is refuted by what its failing says holds.
+pub refuted : (x : Bool) → (x ≡ false → ⊥) → x ≡ true
+refuted true f = refl
+refuted false f = absurd (f refl)
+
 -- Two tests of which each implies the other are equal.
 pub same-test : (x y : Bool) → (x ≡ true → y ≡ true) → (y ≡ true → x ≡ true) → x ≡ y
 same-test true y f g = sym (f refl)

@@ -3,15 +3,15 @@
 --     holdsBelow p n     whether p holds at some k < n
 -- A reader believes these by `first-is` and `least-is`, which mention no search. A loop uses `Scan p s n i`: the scan from s has come to i and
 -- found nothing; `scan` starts it, `pass` is one more turn, `hit` leaves it early, `out` runs it to the end.
-use Prim.Native.Nat.{ℕ, zero, suc, _+_, _-_, _<_, _≤_, zero-le}
-use mathlib.Core.Bool.{Bool, true, false}
-use mathlib.Core.Logic.{⊎-elim}
+use Prim.Native.Nat.{ℕ, zero, suc, _+_, _-_, _<_, _≤_, min, zero-le}
+use mathlib.Core.Bool.{Bool, true, false, _||_}
+use mathlib.Core.Logic.{_⊎_, inl, inr, ⊎-elim}
 use mathlib.Core.Path.{_≡_, refl, sym, _∙_, subst}
 use native.Mathlib.Nat.{eq-or-lt-of-le, not-le-of-lt, le-antisymm}
 use native.Mathlib.Omega.{arith}
 use borrow.Author.Tests.{le-ltb, ltb-true, ltb-false}
 use lib.Dec.{ltb}
-use Rattle.bounded.specs.Boolean.{lt-or-le, contrary, same-test}
+use Rattle.bounded.specs.Boolean.{lt-or-le, contrary, either, neither, neither-holds, refuted, same-test}
 
 -- The search from i over the next k indices.
 unfoldable pub firstFrom : (ℕ → Bool) → ℕ → ℕ → ℕ
@@ -81,6 +81,39 @@ module _ (p : ℕ → Bool) where
       no-later : (r q : ℕ) → IsLeast p r → IsLeast p q → r ≤ q
       no-later r q x y = ⊎-elim (λ l. contrary (y .passes) (x .below q l)) (λ l. l) (lt-or-le q r)
 
+  -- Only one index is first.
+  pub one-first : (s n r : ℕ) → IsFirst p s n r → firstIn p s n ≡ r
+  one-first s n r x = let f = first-is s n (omega (arith, x .low, x .high)) in le-antisymm (no-later (firstIn p s n) r f x) (no-later r (firstIn p s n) x f)
+    where
+      no-later : (a b : ℕ) → IsFirst p s n a → IsFirst p s n b → a ≤ b
+      no-later a b f g = ⊎-elim (λ l. contrary (g .at (omega (arith, f .high))) (f .before b (g .low) l)) (λ l. l) (lt-or-le b a)
+
+-- The first index at which one of two tests holds is the lower of the two first.
+pub first-either : (p q : ℕ → Bool) (n : ℕ) → firstIn (λ k. p k || q k) 0 n ≡ min (firstIn p 0 n) (firstIn q 0 n)
+first-either p q n =
+    one-first (λ k. p k || q k) 0 n _
+    record {
+      low = omega arith;
+      high = omega (arith, f .high);
+      before = λ k l m. neither-holds (p k) (q k) (f .before k l (omega arith)) (g .before k l (omega arith));
+      at = λ l. refuted _ (λ e. none l (neither (p (min (firstIn p 0 n) (firstIn q 0 n))) (q (min (firstIn p 0 n) (firstIn q 0 n))) e) (lt-or-le (firstIn q 0 n) (firstIn p 0 n)));
+    }
+  where
+    f : IsFirst p 0 n (firstIn p 0 n)
+    f = first-is p 0 n zero-le
+
+    g : IsFirst q 0 n (firstIn q 0 n)
+    g = first-is q 0 n zero-le
+
+    none : min (firstIn p 0 n) (firstIn q 0 n) < n → (p (min (firstIn p 0 n) (firstIn q 0 n)) ≡ false) × (q (min (firstIn p 0 n) (firstIn q 0 n)) ≡ false)
+        → (firstIn q 0 n < firstIn p 0 n) ⊎ (firstIn p 0 n ≤ firstIn q 0 n) → ⊥
+    none l e (inl m) =
+        let z : min (firstIn p 0 n) (firstIn q 0 n) ≡ firstIn q 0 n = omega arith in
+        contrary (g .at (omega arith)) (subst (λ (k : ℕ). q k ≡ false) z (e .1))
+    none l e (inr m) =
+        let z : min (firstIn p 0 n) (firstIn q 0 n) ≡ firstIn p 0 n = omega arith in
+        contrary (f .at (omega arith)) (subst (λ (k : ℕ). p k ≡ false) z (e .0))
+
 -- ---- whether there is one
 
 module _ (p : ℕ → Bool) (n : ℕ) where
@@ -108,6 +141,22 @@ module _ (p : ℕ → Bool) (n : ℕ) where
       go : (b : Bool) → holdsBelow p n ≡ b → b ≡ true
       go true q = refl
       go false q = contrary e (none-holds q k l)
+
+-- One index more.
+pub holds-more : (p : ℕ → Bool) (n : ℕ) → holdsBelow p (n + 1) ≡ holdsBelow p n || p n
+holds-more p n = same-test _ _ down (λ e. up (either (holdsBelow p n) (p n) e))
+  where
+    down : holdsBelow p (n + 1) ≡ true → holdsBelow p n || p n ≡ true
+    down e =
+        refuted _ (λ f.
+        let none = neither (holdsBelow p n) (p n) f in
+        let x = found p (n + 1) e in
+        ⊎-elim (λ l. contrary (x .1) (none-holds p n (none .0) _ l)) (λ l. let q : n ≡ firstIn p 0 (n + 1) = omega (arith, x .0) in contrary (x .1) (subst (λ (k : ℕ). p k ≡ false) q (none .1)))
+        (lt-or-le (firstIn p 0 (n + 1)) n))
+
+    up : (holdsBelow p n ≡ true) ⊎ (p n ≡ true) → holdsBelow p (n + 1) ≡ true
+    up (inl e) = let x = found p n e in some-found p (n + 1) _ (omega (arith, x .0)) (x .1)
+    up (inr e) = some-found p (n + 1) n (omega arith) e
 
 -- Two tests that agree below the bound are found to hold alike.
 pub holds-same : (p q : ℕ → Bool) (n : ℕ) → ((k : ℕ) → k < n → p k ≡ q k) → holdsBelow p n ≡ holdsBelow q n

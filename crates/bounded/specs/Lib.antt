@@ -1,5 +1,6 @@
 pub mod Boolean
 pub mod First
+pub mod Last
 pub mod Pair
 pub mod Lowest
 pub mod Greatest

@@ -8,3 +8,6 @@ pub struct Offset(pub u64);
 
 // The number of a row of the request table.
 pub struct Row(pub usize);
+
+// The number of a tensor of the operator list.
+pub struct Tensor(pub usize);

@@ -1,0 +1,141 @@
+-- What the tests of naming and of reading say, over signed words and both ways: which use names a tensor by which operator, and which use lets another read.
+use Prim.Native.Nat.{ℕ, _<_}
+use mathlib.Core.Bool.{true, false, not, _&&_, _||_}
+use mathlib.Core.List.{List}
+use mathlib.Core.Logic.{_⊎_, inl, inr}
+use mathlib.Core.Path.{_≡_, refl, sym, _∙_, ap, subst}
+use borrow.Author.Tests.{ltb-true, lt-ltb, eqb-true, eq-eqb, not-false, not-true}
+use lib.Dec.{ltb, eqb}
+use lib.IntN.{ℤ, pos}
+use lib.Signed.{_<ℤ_}
+use Rattle.bounded.specs.Boolean.{both, both-hold, contrary, either, refuted}
+use Rattle.bounded.specs.First.{firstIn, found, some-found, none-holds}
+use Rattle.words.specs.Words.{natural}
+use Rattle.words.specs.WordOrders.{lt-of, of-lt}
+use Rattle.lifetime_rule.specs.GoodUses.{Natural}
+use Rattle.lifetime_rule.specs.Lives.{names, named, lets, readable, tooEarly}
+use Rattle.lifetime_rule.specs.Uses.{reads, writes, modelInput, count, word, useAt}
+
+-- Use k names tensor t by operator m: it reads or writes it there, or the tensor is a model input, which "counts as naming by operator 0".
+pub data Names (u : List ℤ) (t m k : ℕ) : Type 0 where
+  by-reading : word u k 2 ≡ pos reads → word u k 1 ≡ pos t → word u k 0 ≡ pos m → Names u t m k
+  by-writing : word u k 2 ≡ pos writes → word u k 1 ≡ pos t → word u k 0 ≡ pos m → Names u t m k
+  as-input : word u k 2 ≡ pos modelInput → word u k 1 ≡ pos t → m ≡ 0 → Names u t m k
+
+-- Use j lets use k read: both are of one tensor, and it is a model input or use j writes it by an earlier operator.
+pub data Lets (u : List ℤ) (k j : ℕ) : Type 0 where
+  of-input : word u j 2 ≡ pos modelInput → word u j 1 ≡ word u k 1 → Lets u k j
+  after-writing : word u j 2 ≡ pos writes → word u j 1 ≡ word u k 1 → word u j 0 <ℤ word u k 0 → Lets u k j
+
+-- Some use of the list does.
+pub record Some (u : List ℤ) (So : ℕ → Type 0) : Type 0 where
+  pub which : ℕ
+  pub within : which < count u
+  pub so : So which
+
+-- The list names tensor t by operator m.
+abbrev pub Named : List ℤ → ℕ → ℕ → Type 0
+Named u t m = Some u (Names u t m)
+
+-- Use k reads its tensor, and no use lets it.
+pub record TooEarly (u : List ℤ) (k : ℕ) : Type 0 where
+  pub is-read : word u k 2 ≡ pos reads
+  pub not-let : Some u (Lets u k) → ⊥
+
+-- ---- one use
+
+module _ (u : List ℤ) (k : ℕ) where
+  -- A use whose words are natural numbers names as the test says,
+  pub names-says : (t m : ℕ) → Natural u k → names (useAt u k) t m ≡ true → Names u t m k
+  unfolding names useAt
+  names-says t m n e =
+      let x = useAt u k in
+      let a = both (eqb (x .tensor .0) t) (((eqb (x .role) reads || eqb (x .role) writes) && eqb (x .operator .0) m) || (eqb (x .role) modelInput && eqb 0 m)) e in
+      how (n .tensor-is ∙ ap pos (eqb-true _ _ (a .0))) (either _ _ (a .1))
+    where
+      role : {r : ℕ} → eqb (natural (word u k 2)) r ≡ true → word u k 2 ≡ pos r
+      role q = n .role-is ∙ ap pos (eqb-true _ _ q)
+
+      operator : eqb (natural (word u k 0)) m ≡ true → word u k 0 ≡ pos m
+      operator q = n .operator-is ∙ ap pos (eqb-true _ _ q)
+
+      act : word u k 1 ≡ pos t → eqb (natural (word u k 0)) m ≡ true → (eqb (natural (word u k 2)) reads ≡ true) ⊎ (eqb (natural (word u k 2)) writes ≡ true) → Names u t m k
+      act w o (inl q) = by-reading (role q) w (operator o)
+      act w o (inr q) = by-writing (role q) w (operator o)
+
+      how : word u k 1 ≡ pos t
+          → ((eqb (natural (word u k 2)) reads || eqb (natural (word u k 2)) writes) && eqb (natural (word u k 0)) m ≡ true) ⊎ (eqb (natural (word u k 2)) modelInput && eqb 0 m ≡ true)
+          → Names u t m k
+      how w (inl q) = let x = both (eqb (natural (word u k 2)) reads || eqb (natural (word u k 2)) writes) (eqb (natural (word u k 0)) m) q in act w (x .1) (either _ _ (x .0))
+      how w (inr q) = let x = both (eqb (natural (word u k 2)) modelInput) (eqb 0 m) q in as-input (role (x .0)) w (sym (eqb-true 0 m (x .1)))
+
+  -- and the other way.
+  pub names-of : (t m : ℕ) → Names u t m k → names (useAt u k) t m ≡ true
+  unfolding names useAt natural
+  names-of t m (by-reading r w o) = rw (r, w, o) (both-hold _ _ (eq-eqb t t refl) (rw (eq-eqb m m refl)))
+  names-of t m (by-writing r w o) = rw (r, w, o) (both-hold _ _ (eq-eqb t t refl) (rw (eq-eqb m m refl)))
+  names-of t m (as-input r w z) = rw (r, w, z) (both-hold _ _ (eq-eqb t t refl) refl)
+
+  -- The same for one use that lets another read.
+  pub lets-says : (j : ℕ) → Natural u k → Natural u j → lets (useAt u j) (natural (word u k 1)) (natural (word u k 0)) ≡ true → Lets u k j
+  unfolding lets useAt
+  lets-says j n i e =
+      let x = useAt u j in
+      let a = both (eqb (x .tensor .0) (natural (word u k 1))) (eqb (x .role) modelInput || (eqb (x .role) writes && ltb (x .operator .0) (natural (word u k 0)))) e in
+      how (i .tensor-is ∙ ap pos (eqb-true _ _ (a .0)) ∙ sym (n .tensor-is)) (either _ _ (a .1))
+    where
+      role : {r : ℕ} → eqb (natural (word u j 2)) r ≡ true → word u j 2 ≡ pos r
+      role q = i .role-is ∙ ap pos (eqb-true _ _ q)
+
+      how : word u j 1 ≡ word u k 1 → (eqb (natural (word u j 2)) modelInput ≡ true) ⊎ (eqb (natural (word u j 2)) writes && ltb (natural (word u j 0)) (natural (word u k 0)) ≡ true) → Lets u k j
+      how w (inl q) = of-input (role q) w
+      how w (inr q) =
+          let x = both (eqb (natural (word u j 2)) writes) (ltb (natural (word u j 0)) (natural (word u k 0))) q in
+          after-writing (role (x .0)) w
+          (subst (λ (z : ℤ). z <ℤ word u k 0) (sym (i .operator-is)) (subst (λ (z : ℤ). pos (natural (word u j 0)) <ℤ z) (sym (n .operator-is)) (lt-of _ _ (ltb-true _ _ (x .1)))))
+
+  pub lets-of : (j : ℕ) → Natural u k → Natural u j → Lets u k j → lets (useAt u j) (natural (word u k 1)) (natural (word u k 0)) ≡ true
+  unfolding lets useAt natural
+  lets-of j n i (of-input r w) = rw (r, w) (both-hold _ _ (eq-eqb (natural (word u k 1)) _ refl) refl)
+  lets-of j n i (after-writing r w l) =
+      let o : natural (word u j 0) < natural (word u k 0) = of-lt _ _ (subst (λ (z : ℤ). z <ℤ pos (natural (word u k 0))) (i .operator-is) (subst (λ (z : ℤ). word u j 0 <ℤ z) (n .operator-is) l)) in
+      rw (r, w) (both-hold _ _ (eq-eqb (natural (word u k 1)) _ refl) (lt-ltb _ _ o))
+
+-- ---- the whole list
+
+module _ (u : List ℤ) (each : (k : ℕ) → k < count u → Natural u k) where
+  -- The list names a tensor as the test says,
+  pub named-says : (t m : ℕ) → named u t m ≡ true → Named u t m
+  unfolding named
+  named-says t m e =
+      let x = found (λ k. names (useAt u k) t m) (count u) e in
+      record { which = firstIn (λ k. names (useAt u k) t m) 0 (count u); within = x .0; so = names-says u _ t m (each _ (x .0)) (x .1) }
+
+  -- and the other way.
+  pub named-of : (t m : ℕ) → Named u t m → named u t m ≡ true
+  unfolding named
+  named-of t m x = some-found (λ k. names (useAt u k) t m) (count u) (x .which) (x .within) (names-of u (x .which) t m (x .so))
+
+  -- A use reads too early as the test says,
+  pub early-says : (k : ℕ) → k < count u → tooEarly u k ≡ true → TooEarly u k
+  unfolding tooEarly readable useAt
+  early-says k l e =
+      let x = both (eqb (natural (word u k 2)) reads) (not (readable u (natural (word u k 1)) (natural (word u k 0)))) e in
+      let none = none-holds (λ j. lets (useAt u j) (natural (word u k 1)) (natural (word u k 0))) (count u) (not-true _ (x .1)) in
+      record {
+        is-read = each k l .role-is ∙ ap pos (eqb-true _ _ (x .0));
+        not-let = λ s. contrary (lets-of u k (s .which) (each k l) (each _ (s .within)) (s .so)) (none (s .which) (s .within));
+      }
+
+  -- A use that reads, and not too early, is let by some use.
+  pub read-let : (k : ℕ) → k < count u → word u k 2 ≡ pos reads → tooEarly u k ≡ false → Some u (Lets u k)
+  unfolding tooEarly readable useAt natural
+  read-let k l e f =
+      let role : eqb (natural (word u k 2)) reads ≡ true = eq-eqb _ _ (ap natural e) in
+      let g : not (readable u (natural (word u k 1)) (natural (word u k 0))) ≡ false = rw role at f in
+      let y = found (λ j. lets (useAt u j) (natural (word u k 1)) (natural (word u k 0))) (count u) (not-false _ g) in
+      record { which = firstIn (λ j. lets (useAt u j) (natural (word u k 1)) (natural (word u k 0))) 0 (count u); within = y .0; so = lets-says u k _ (each k l) (each _ (y .0)) (y .1) }
+
+  -- So a use that none lets reads too early.
+  pub early-of : (k : ℕ) → k < count u → TooEarly u k → tooEarly u k ≡ true
+  early-of k l x = refuted _ (λ e. x .not-let (read-let k l (x .is-read) e))

@@ -1,0 +1,140 @@
+-- Law: what a done operator list leaves. Each tensor's life has 0 ≤ first ≤ last < T, holds every operator that names the tensor, and is named at both ends;
+-- no read stands without role 2 or a write by an earlier operator. So a life is neither too short nor too long, and its ends are good moments for a row of
+-- the request table.
+use Prim.Native.Nat.{ℕ, _+_, _*_, _<_, _≤_, _/_, _%_}
+use mathlib.Core.Bool.{Bool, true, false}
+use mathlib.Core.List.{List}
+use mathlib.Core.Logic.{⊎-elim}
+use mathlib.Core.Path.{_≡_, sym, _∙_, ap, ap₂, subst}
+use native.Mathlib.Omega.{arith}
+use borrow.Author.Tests.{eq-eqb, ne-eqb, not-false}
+use lib.Dec.{eqb}
+use lib.IntN.{ℤ, pos}
+use lib.ListN.{length}
+use lib.Signed.{_≤ℤ_}
+use Rattle.answer.specs.Answer.{doneWith}
+use Rattle.bounded.specs.Boolean.{contrary, lt-or-le}
+use Rattle.bounded.specs.First.{firstIn, first-is, found}
+use Rattle.bounded.specs.Last.{lastIn, IsLast, last-is}
+use Rattle.bounded.specs.Replaced.{replaced-length, replaced-at, replaced-past}
+use Rattle.words.specs.Words.{wordAt, natural}
+use Rattle.words.specs.WordOrders.{le-of}
+use Rattle.request_table.specs.CheckLaws.{numberOf}
+use Rattle.request_table.specs.Limits.{lastMoment}
+use Rattle.lifetime_rule.specs.Answers.{Done, done-says, done-lifetimes}
+use Rattle.lifetime_rule.specs.GoodUses.{Natural, tests, good-natural}
+use Rattle.lifetime_rule.specs.Lives.{named, firstOf, lastOf, unnamed, lifeWord}
+use Rattle.lifetime_rule.specs.Lifetimes.{lifetimesOf, finalLifetimes}
+use Rattle.lifetime_rule.specs.Naming.{Names, by-reading, by-writing, as-input, Lets, Some, Named, named-says, named-of, read-let}
+use Rattle.lifetime_rule.specs.Uses.{reads, count, word}
+
+-- A tensor lives from first to last: "from the lowest to the highest operator that names the tensor".
+pub record Life (operators : ℕ) (u : List ℤ) (t first last : ℕ) : Type 0 where
+  pub rising : first ≤ last
+  pub below : last < operators
+  pub holds : (m k : ℕ) → k < count u → Names u t m k → (first ≤ m) × (m ≤ last)
+  pub first-named : Named u t first
+  pub last-named : Named u t last
+
+-- The lifetimes in the end, the first and last of each tensor, and the reads.
+pub record Lived (operators tensors : ℕ) (u lifetimes : List ℤ) : Type 0 where
+  pub first : ℕ → ℕ
+  pub last : ℕ → ℕ
+  -- entries 2t and 2t + 1 are tensor t's life, and the rest stays
+  pub first-entry : (t : ℕ) → t < tensors → wordAt (finalLifetimes operators tensors u lifetimes) (t * 2) ≡ pos (first t)
+  pub last-entry : (t : ℕ) → t < tensors → wordAt (finalLifetimes operators tensors u lifetimes) (t * 2 + 1) ≡ pos (last t)
+  pub life : (t : ℕ) → t < tensors → Life operators u t (first t) (last t)
+  pub rest : (i : ℕ) → tensors * 2 ≤ i → wordAt (finalLifetimes operators tensors u lifetimes) i ≡ wordAt lifetimes i
+  pub long : length (finalLifetimes operators tensors u lifetimes) ≡ length lifetimes
+  -- "A read needs role 2 or a write by an earlier operator."
+  pub let-read : (k : ℕ) → k < count u → word u k 2 ≡ pos reads → Some u (Lets u k)
+
+-- ---- the entries
+
+module _ (operators : ℕ) (u : List ℤ) where
+  entry : (i : ℕ) (b : Bool) (t : ℕ) → eqb (i % 2) 0 ≡ b → i / 2 ≡ t → lifeWord operators u i ≡ elim b [ true ↦ pos (firstOf operators u t) | false ↦ pos (lastOf operators u t) ]
+  unfolding lifeWord
+  entry i b t e h = ap₂ (λ (x : Bool) (n : ℕ). elim x [ true ↦ pos (firstOf operators u n) | false ↦ pos (lastOf operators u n) ]) e h
+
+  -- Entry 2t is the first moment of tensor t,
+  pub first-word : (t : ℕ) → lifeWord operators u (t * 2) ≡ pos (firstOf operators u t)
+  first-word t = entry (t * 2) true t (eq-eqb (t * 2 % 2) 0 (omega arith)) (omega arith)
+
+  -- and entry 2t + 1 the last.
+  pub last-word : (t : ℕ) → lifeWord operators u (t * 2 + 1) ≡ pos (lastOf operators u t)
+  last-word t = entry (t * 2 + 1) false t (ne-eqb ((t * 2 + 1) % 2) 0 (omega arith)) (omega arith)
+
+-- ---- the lives
+
+module _ (operators : ℕ) (u : List ℤ) (each : (k : ℕ) → k < count u → Natural u k) (low : (t m k : ℕ) → k < count u → Names u t m k → m < operators) where
+  -- A named tensor lives so.
+  pub lives-so : (t : ℕ) → unnamed operators u t ≡ false → Life operators u t (firstOf operators u t) (lastOf operators u t)
+  unfolding unnamed firstOf lastOf
+  lives-so t e =
+      let x = found (named u t) operators (not-false _ e) in
+      let l = last-is (named u t) operators _ (x .0) (x .1) in
+      record {
+        rising = not-after l _ (x .0) (x .1);
+        below = l .within;
+        holds = λ m k w n.
+            let passes = named-of u each t m (record { which = k; within = w; so = n }) in
+            (not-before m passes, not-after l m (low t m k w n) passes);
+        first-named = named-says u each t _ (x .1);
+        last-named = named-says u each t _ (l .passes);
+      }
+    where
+      not-before : (m : ℕ) → named u t m ≡ true → firstIn (named u t) 0 operators ≤ m
+      not-before m p = ⊎-elim (λ q. contrary p (first-is (named u t) 0 operators (omega arith) .before m (omega arith) q)) (λ q. q) (lt-or-le m (firstIn (named u t) 0 operators))
+
+      not-after : IsLast (named u t) operators (lastIn (named u t) operators) → (m : ℕ) → m < operators → named u t m ≡ true → m ≤ lastIn (named u t) operators
+      not-after l m b p = ⊎-elim (λ q. contrary p (l .after m q b)) (λ q. q) (lt-or-le (lastIn (named u t) operators) m)
+
+-- ---- a done list
+
+module _ (operators tensors : ℕ) (u lifetimes : List ℤ) (d : lifetimesOf operators tensors u (length lifetimes) ≡ doneWith 0) where
+  done : Done operators tensors u (length lifetimes)
+  done = done-says operators tensors u (length lifetimes) (ap numberOf d)
+
+  natural-words : (k : ℕ) → k < count u → Natural u k
+  natural-words k l = good-natural operators tensors u k (done .sized .few-operators) (done .sized .few-tensors) (done .uses-good .each k l)
+
+  below : (k : ℕ) → k < count u → (m : ℕ) → word u k 0 ≡ pos m → m < operators
+  unfolding natural
+  below k l m o =
+      let x = tests operators tensors u k (done .sized .few-operators) (done .sized .few-tensors) (done .uses-good .each k l) in
+      omega (arith, x .operator, ap natural o)
+
+  -- The operator by which a tensor is named is one of the operators.
+  named-low : (t m k : ℕ) → k < count u → Names u t m k → m < operators
+  named-low t m k l (by-reading r w o) = below k l m o
+  named-low t m k l (by-writing r w o) = below k l m o
+  named-low t m k l (as-input r w z) = omega (arith, z, done .sized .some-operator)
+
+  -- A done list leaves this.
+  pub lived : Lived operators tensors u lifetimes
+  lived =
+      let f = done-lifetimes operators tensors u lifetimes (ap numberOf d) in
+      record {
+        first = firstOf operators u;
+        last = lastOf operators u;
+        first-entry = λ t l.
+            ap (λ (xs : List ℤ). wordAt xs (t * 2)) f ∙ replaced-at (lifeWord operators u) (tensors * 2) lifetimes (pos 0) (t * 2) (omega arith) (done .sized .roomy) ∙ first-word operators u t;
+        last-entry = λ t l.
+            ap (λ (xs : List ℤ). wordAt xs (t * 2 + 1)) f ∙ replaced-at (lifeWord operators u) (tensors * 2) lifetimes (pos 0) (t * 2 + 1) (omega arith) (done .sized .roomy) ∙ last-word operators u t;
+        life = λ t l. lives-so operators u natural-words named-low t (done .all-named t l);
+        rest = λ i l. ap (λ (xs : List ℤ). wordAt xs i) f ∙ replaced-past (lifeWord operators u) (tensors * 2) lifetimes (pos 0) i l;
+        long = ap length f ∙ replaced-length (lifeWord operators u) (tensors * 2) lifetimes;
+        let-read = λ k l e. read-let u natural-words k l e (done .none-early k l);
+      }
+
+  -- The ends of a life are good moments for a request row: "0 ≤ first ≤ last ≤ 65,535".
+  pub good-moments : (t : ℕ) → t < tensors → (first last : ℤ) → first ≡ wordAt (finalLifetimes operators tensors u lifetimes) (t * 2) → last ≡ wordAt (finalLifetimes operators tensors u lifetimes) (t * 2 + 1)
+      → (pos 0 ≤ℤ first) × (first ≤ℤ last) × (last ≤ℤ pos lastMoment)
+  good-moments t l first last p q =
+      let x = lived .life t l in
+      let a = p ∙ lived .first-entry t l in
+      let b = q ∙ lived .last-entry t l in (
+        subst (λ (z : ℤ). pos 0 ≤ℤ z) (sym a) (le-of 0 _ (omega arith)),
+        subst (λ (z : ℤ). z ≤ℤ last) (sym a) (subst (λ (z : ℤ). pos (lived .first t) ≤ℤ z) (sym b) (le-of _ _ (x .rising))),
+        subst (λ (z : ℤ). z ≤ℤ pos lastMoment) (sym b) (le-of _ _ (omega (arith, x .below, done .sized .few-operators))),
+      )
