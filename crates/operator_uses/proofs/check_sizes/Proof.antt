@@ -1,0 +1,51 @@
+-- `operator_uses::check_sizes` meets its contract: each way out is the first cause that holds.
+use Rattle.bounded.specs.Causes.{firstCause}
+use Rattle.lifetime_rule.specs.Lifetimes.{outOfLimits, sizesOf}
+use borrow.Author.Needs.{needs}
+use Rattle.operator_uses.proofs.check_sizes.Statement.{statement}
+use Rattle.operator_uses.proofs.check_sizes.Tie as tie
+
+mul-too-short : tie.Need-mul-too-short
+mul-too-short c = search needs
+
+refused-requires : tie.Need-refused-requires
+refused-requires c κs = search needs
+
+returns : tie.Need-returns
+unfolding sizesOf outOfLimits
+returns c = rw (c .before .if1 .taken, firstCause) (c .refused .ensures)
+
+refused-requires-2 : tie.Need-refused-requires-2
+refused-requires-2 c κs = search needs
+
+returns-2 : tie.Need-returns-2
+unfolding sizesOf outOfLimits
+returns-2 c = let p = c .before in rw (p .before .if1 .left, firstCause, p .if2 .taken, firstCause) (c .refused2 .ensures)
+
+refused-requires-3 : tie.Need-refused-requires-3
+refused-requires-3 c κs = search needs
+
+returns-3 : tie.Need-returns-3
+unfolding sizesOf outOfLimits
+returns-3 c = let p = c .before in rw (p .before .before .if1 .left, firstCause, p .before .if2 .left, firstCause, p .if3 .taken, firstCause) (c .refused3 .ensures)
+
+done-requires : tie.Need-done-requires
+done-requires c κs = search needs
+
+returns-4 : tie.Need-returns-4
+unfolding sizesOf outOfLimits
+returns-4 c = let p = c .before in rw (p .before .before .if1 .left, firstCause, p .before .if2 .left, firstCause, p .if3 .left, firstCause) (c .done .ensures)
+
+pub check-sizes-spec : {M : Type 1} → statement M
+check-sizes-spec =
+    tie.close
+    (tie.spec
+    mul-too-short
+    refused-requires
+    returns
+    refused-requires-2
+    returns-2
+    refused-requires-3
+    returns-3
+    done-requires
+    returns-4)
