@@ -88,6 +88,10 @@ module _ (p : ℕ → Bool) where
       no-later : (a b : ℕ) → IsFirst p s n a → IsFirst p s n b → a ≤ b
       no-later a b f g = ⊎-elim (λ l. contrary (g .at (omega (arith, f .high))) (f .before b (g .low) l)) (λ l. l) (lt-or-le b a)
 
+-- Where no index below the bound passes, the search gives the bound.
+pub first-none : (p : ℕ → Bool) (n : ℕ) → ((k : ℕ) → k < n → p k ≡ false) → firstIn p 0 n ≡ n
+first-none p n f = one-first p 0 n n record { low = zero-le; high = omega arith; before = λ k m l. f k l; at = λ l. absurd (omega arith) }
+
 -- The first index at which one of two tests holds is the lower of the two first.
 pub first-either : (p q : ℕ → Bool) (n : ℕ) → firstIn (λ k. p k || q k) 0 n ≡ min (firstIn p 0 n) (firstIn q 0 n)
 first-either p q n =

@@ -5,9 +5,9 @@ use Prim.Native.Nat.{ℕ, zero, suc, _<_, _≤_, max}
 use mathlib.Core.Bool.{Bool, true, false, _||_}
 use mathlib.Core.Logic.{⊎-elim}
 use mathlib.Core.Path.{_≡_, refl, sym, subst}
-use native.Mathlib.Nat.{eq-or-lt-of-le, le-of-suc-le-suc}
+use native.Mathlib.Nat.{eq-or-lt-of-le, le-of-suc-le-suc, le-antisymm}
 use native.Mathlib.Omega.{arith}
-use Rattle.bounded.specs.Boolean.{contrary}
+use Rattle.bounded.specs.Boolean.{contrary, lt-or-le}
 
 -- The last index below n at which the test holds, else 0.
 unfoldable pub lastIn : (ℕ → Bool) → ℕ → ℕ
@@ -35,6 +35,19 @@ last-is p (suc n) k l e = go (p n) refl (λ m. last-is p n k m e)
           passes = x .passes;
           after = λ j m o. ⊎-elim (λ z. subst (λ (i : ℕ). p i ≡ false) (sym z) q) (λ z. x .after j m z) (eq-or-lt-of-le (le-of-suc-le-suc o));
         }
+
+-- Where no index below the bound passes, it gives 0.
+pub last-none : (p : ℕ → Bool) (n : ℕ) → ((k : ℕ) → k < n → p k ≡ false) → lastIn p n ≡ 0
+unfolding lastIn
+last-none p zero f = refl
+last-none p (suc n) f = rw (f n (omega arith), lastIn) (last-none p n (λ k l. f k (omega arith)))
+
+-- Only one index is last.
+pub one-last : (p : ℕ → Bool) (n r : ℕ) → IsLast p n r → lastIn p n ≡ r
+one-last p n r x = let l = last-is p n r (x .within) (x .passes) in le-antisymm (no-later _ r l x) (no-later r _ x l)
+  where
+    no-later : (a b : ℕ) → IsLast p n a → IsLast p n b → a ≤ b
+    no-later a b f g = ⊎-elim (λ l. contrary (f .passes) (g .after a l (f .within))) (λ l. l) (lt-or-le b a)
 
 -- It is no greater than the bound.
 pub last-bound : (p : ℕ → Bool) (n : ℕ) → lastIn p n ≤ n

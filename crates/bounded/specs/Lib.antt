@@ -5,6 +5,7 @@ pub mod Pair
 pub mod Lowest
 pub mod Greatest
 pub mod Replaced
+pub mod TwoEach
 pub mod Causes
 pub mod Count
 pub mod InOrder

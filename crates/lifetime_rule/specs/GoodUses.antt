@@ -2,7 +2,7 @@
 use Prim.Native.Nat.{ℕ, _<_, _≤_}
 use mathlib.Core.Bool.{true, _&&_, _||_}
 use mathlib.Core.List.{List}
-use mathlib.Core.Logic.{_⊎_, inl, inr}
+use mathlib.Core.Logic.{_⊎_, inl, inr, ⊎-map}
 use mathlib.Core.Path.{_≡_, sym, _∙_, ap, subst}
 use native.Mathlib.Omega.{arith}
 use borrow.Author.Tests.{leb-true, le-leb, ltb-true, lt-ltb, eqb-true}
@@ -13,6 +13,7 @@ use Rattle.bounded.specs.Boolean.{both, both-hold, either, lt-or-le}
 use Rattle.words.specs.Words.{natural}
 use Rattle.words.specs.WordOrders.{within, le-of, lt-of, of-le, of-lt, natural-of}
 use Rattle.lifetime_rule.specs.Uses.{greatestOperators, greatestTensors, reads, writes, modelInput, modelOutput, word, useAt, goodOperator, good}
+use Rattle.lifetime_rule.specs.declared.Use.{Use}
 
 -- A use is good unless it has "another role, a tensor not from 0 to n − 1 or an operator not from 0 to T − 1 (or not 0 where it must be)".
 pub record GoodUse (operators tensors : ℕ) (u : List ℤ) (k : ℕ) : Type 0 where
@@ -47,36 +48,33 @@ pub record Natural (u : List ℤ) (k : ℕ) : Type 0 where
   pub tensor-is : word u k 1 ≡ pos (natural (word u k 1))
   pub role-is : word u k 2 ≡ pos (natural (word u k 2))
 
+-- The tests of a good use, as they stand.
+pub record Tests (operators tensors : ℕ) (x : Use) : Type 0 where
+  pub role : x .role ≤ modelOutput
+  pub tensor : x .tensor .0 < tensors
+  pub operator : x .operator .0 < operators
+  pub zero-outside : (x .role ≤ writes) ⊎ (x .operator .0 ≡ 0)
+
+-- They hold of a good use.
+pub tests : (operators tensors : ℕ) (x : Use) → good operators tensors x ≡ true → Tests operators tensors x
+unfolding good
+tests operators tensors x e =
+    let a = both (leb (x .role) modelOutput) (ltb (x .tensor .0) tensors && goodOperator operators x) e in
+    let b = both (ltb (x .tensor .0) tensors) (goodOperator operators x) (a .1) in
+    let c = both (ltb (x .operator .0) operators) (leb (x .role) writes || eqb (x .operator .0) 0) (b .1) in
+    record {
+      role = leb-true _ _ (a .0);
+      tensor = ltb-true _ _ (b .0);
+      operator = ltb-true _ _ (c .0);
+      zero-outside = ⊎-map (leb-true (x .role) writes) (eqb-true (x .operator .0) 0) (either _ _ (c .1));
+    }
+
 module _ (operators tensors : ℕ) (u : List ℤ) (k : ℕ) (few-operators : operators ≤ greatestOperators) (few-tensors : tensors ≤ greatestTensors) where
-  -- The four tests of a good use, as they stand.
-  pub record Tests : Type 0 where
-    pub role : natural (word u k 2) ≤ modelOutput
-    pub tensor : natural (word u k 1) < tensors
-    pub operator : natural (word u k 0) < operators
-    pub zero-outside : (natural (word u k 2) ≤ writes) ⊎ (natural (word u k 0) ≡ 0)
-
-  pub tests : good operators tensors (useAt u k) ≡ true → Tests
-  unfolding good useAt
-  tests e =
-      let x = useAt u k in
-      let a = both (leb (x .role) modelOutput) (ltb (x .tensor .0) tensors && goodOperator operators x) e in
-      let b = both (ltb (x .tensor .0) tensors) (goodOperator operators x) (a .1) in
-      let c = both (ltb (x .operator .0) operators) (leb (x .role) writes || eqb (x .operator .0) 0) (b .1) in
-      record {
-        role = leb-true _ _ (a .0);
-        tensor = ltb-true _ _ (b .0);
-        operator = ltb-true _ _ (c .0);
-        zero-outside = outside (either _ _ (c .1));
-      }
-    where
-      outside : (leb (natural (word u k 2)) writes ≡ true) ⊎ (eqb (natural (word u k 0)) 0 ≡ true) → (natural (word u k 2) ≤ writes) ⊎ (natural (word u k 0) ≡ 0)
-      outside (inl q) = inl (leb-true _ _ q)
-      outside (inr q) = inr (eqb-true _ _ q)
-
   -- The words of a good use are natural numbers.
   pub good-natural : good operators tensors (useAt u k) ≡ true → Natural u k
+  unfolding useAt
   good-natural e =
-      let x = tests e in
+      let x = tests operators tensors (useAt u k) e in
       record {
         operator-is = within (word u k 0) greatestOperators (omega arith) (omega (arith, x .operator)) .is;
         tensor-is = within (word u k 1) greatestTensors (omega arith) (omega (arith, x .tensor)) .is;
@@ -85,9 +83,9 @@ module _ (operators tensors : ℕ) (u : List ℤ) (k : ℕ) (few-operators : ope
 
   -- A use that the definition calls good is good in the document's words,
   pub good-says : good operators tensors (useAt u k) ≡ true → GoodUse operators tensors u k
-  unfolding natural
+  unfolding natural useAt
   good-says e =
-      let x = tests e in
+      let x = tests operators tensors (useAt u k) e in
       let n = good-natural e in
       record {
         role-from = subst (λ (z : ℤ). pos 0 ≤ℤ z) (sym (n .role-is)) (le-of 0 _ (omega arith));

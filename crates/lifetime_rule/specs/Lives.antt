@@ -1,13 +1,14 @@
 -- Lives (document 01, "The desk's order of checks", Lives): "A life runs from the lowest to the highest operator that names the tensor by role 0 or 1;
 -- role 2 counts as naming by operator 0. Role 3 changes nothing. A read needs role 2 or a write by an earlier operator." Where a use stands in the list
 -- says nothing; an operator is earlier where its number is lower.
-use Prim.Native.Nat.{ℕ, _/_, _%_}
-use mathlib.Core.Bool.{Bool, true, false, not, _&&_, _||_}
+use Prim.Native.Nat.{ℕ}
+use mathlib.Core.Bool.{Bool, not, _&&_, _||_}
 use mathlib.Core.List.{List}
 use lib.Dec.{ltb, eqb}
 use lib.IntN.{ℤ, pos}
 use Rattle.bounded.specs.First.{firstIn, holdsBelow}
 use Rattle.bounded.specs.Last.{lastIn}
+use Rattle.bounded.specs.TwoEach.{twoEach}
 use Rattle.lifetime_rule.specs.Uses.{reads, writes, modelInput, count, useAt}
 use Rattle.lifetime_rule.specs.declared.Use.{Use}
 
@@ -47,5 +48,5 @@ unfoldable pub tooEarly : List ℤ → ℕ → Bool
 tooEarly u k = eqb (useAt u k .role) reads && not (readable u (useAt u k .tensor .0) (useAt u k .operator .0))
 
 -- "Answer: first and last for each tensor": entries 2t and 2t + 1 of the lifetimes are tensor t's.
-unfoldable pub lifeWord : ℕ → List ℤ → ℕ → ℤ
-lifeWord operators u i = elim (eqb (i % 2) 0) [ true ↦ pos (firstOf operators u (i / 2)) | false ↦ pos (lastOf operators u (i / 2)) ]
+abbrev pub lifeWord : ℕ → List ℤ → ℕ → ℤ
+lifeWord operators u = twoEach (λ t. pos (firstOf operators u t)) (λ t. pos (lastOf operators u t))

@@ -1,14 +1,13 @@
 -- Law: what a done operator list leaves. Each tensor's life has 0 ≤ first ≤ last < T, holds every operator that names the tensor, and is named at both ends;
 -- no read stands without role 2 or a write by an earlier operator. So a life is neither too short nor too long, and its ends are good moments for a row of
 -- the request table.
-use Prim.Native.Nat.{ℕ, _+_, _*_, _<_, _≤_, _/_, _%_}
-use mathlib.Core.Bool.{Bool, true, false}
+use Prim.Native.Nat.{ℕ, _+_, _*_, _<_, _≤_}
+use mathlib.Core.Bool.{true, false}
 use mathlib.Core.List.{List}
 use mathlib.Core.Logic.{⊎-elim}
-use mathlib.Core.Path.{_≡_, sym, _∙_, ap, ap₂, subst}
+use mathlib.Core.Path.{_≡_, sym, _∙_, ap, subst}
 use native.Mathlib.Omega.{arith}
-use borrow.Author.Tests.{eq-eqb, ne-eqb, not-false}
-use lib.Dec.{eqb}
+use borrow.Author.Tests.{not-false}
 use lib.IntN.{ℤ, pos}
 use lib.ListN.{length}
 use lib.Signed.{_≤ℤ_}
@@ -17,6 +16,7 @@ use Rattle.bounded.specs.Boolean.{contrary, lt-or-le}
 use Rattle.bounded.specs.First.{firstIn, first-is, found}
 use Rattle.bounded.specs.Last.{lastIn, IsLast, last-is}
 use Rattle.bounded.specs.Replaced.{replaced-length, replaced-at, replaced-past}
+use Rattle.bounded.specs.TwoEach.{two-first, two-second}
 use Rattle.words.specs.Words.{wordAt, natural}
 use Rattle.words.specs.WordOrders.{le-of}
 use Rattle.request_table.specs.CheckLaws.{numberOf}
@@ -26,7 +26,7 @@ use Rattle.lifetime_rule.specs.GoodUses.{Natural, tests, good-natural}
 use Rattle.lifetime_rule.specs.Lives.{named, firstOf, lastOf, unnamed, lifeWord}
 use Rattle.lifetime_rule.specs.Lifetimes.{lifetimesOf, finalLifetimes}
 use Rattle.lifetime_rule.specs.Naming.{Names, by-reading, by-writing, as-input, Lets, Some, Named, named-says, named-of, read-let}
-use Rattle.lifetime_rule.specs.Uses.{reads, count, word}
+use Rattle.lifetime_rule.specs.Uses.{reads, count, word, useAt}
 
 -- A tensor lives from first to last: "from the lowest to the highest operator that names the tensor".
 pub record Life (operators : ℕ) (u : List ℤ) (t first last : ℕ) : Type 0 where
@@ -48,21 +48,6 @@ pub record Lived (operators tensors : ℕ) (u lifetimes : List ℤ) : Type 0 whe
   pub long : length (finalLifetimes operators tensors u lifetimes) ≡ length lifetimes
   -- "A read needs role 2 or a write by an earlier operator."
   pub let-read : (k : ℕ) → k < count u → word u k 2 ≡ pos reads → Some u (Lets u k)
-
--- ---- the entries
-
-module _ (operators : ℕ) (u : List ℤ) where
-  entry : (i : ℕ) (b : Bool) (t : ℕ) → eqb (i % 2) 0 ≡ b → i / 2 ≡ t → lifeWord operators u i ≡ elim b [ true ↦ pos (firstOf operators u t) | false ↦ pos (lastOf operators u t) ]
-  unfolding lifeWord
-  entry i b t e h = ap₂ (λ (x : Bool) (n : ℕ). elim x [ true ↦ pos (firstOf operators u n) | false ↦ pos (lastOf operators u n) ]) e h
-
-  -- Entry 2t is the first moment of tensor t,
-  pub first-word : (t : ℕ) → lifeWord operators u (t * 2) ≡ pos (firstOf operators u t)
-  first-word t = entry (t * 2) true t (eq-eqb (t * 2 % 2) 0 (omega arith)) (omega arith)
-
-  -- and entry 2t + 1 the last.
-  pub last-word : (t : ℕ) → lifeWord operators u (t * 2 + 1) ≡ pos (lastOf operators u t)
-  last-word t = entry (t * 2 + 1) false t (ne-eqb ((t * 2 + 1) % 2) 0 (omega arith)) (omega arith)
 
 -- ---- the lives
 
@@ -99,9 +84,9 @@ module _ (operators tensors : ℕ) (u lifetimes : List ℤ) (d : lifetimesOf ope
   natural-words k l = good-natural operators tensors u k (done .sized .few-operators) (done .sized .few-tensors) (done .uses-good .each k l)
 
   below : (k : ℕ) → k < count u → (m : ℕ) → word u k 0 ≡ pos m → m < operators
-  unfolding natural
+  unfolding natural useAt
   below k l m o =
-      let x = tests operators tensors u k (done .sized .few-operators) (done .sized .few-tensors) (done .uses-good .each k l) in
+      let x = tests operators tensors (useAt u k) (done .uses-good .each k l) in
       omega (arith, x .operator, ap natural o)
 
   -- The operator by which a tensor is named is one of the operators.
@@ -118,9 +103,9 @@ module _ (operators tensors : ℕ) (u lifetimes : List ℤ) (d : lifetimesOf ope
         first = firstOf operators u;
         last = lastOf operators u;
         first-entry = λ t l.
-            ap (λ (xs : List ℤ). wordAt xs (t * 2)) f ∙ replaced-at (lifeWord operators u) (tensors * 2) lifetimes (pos 0) (t * 2) (omega arith) (done .sized .roomy) ∙ first-word operators u t;
+            ap (λ (xs : List ℤ). wordAt xs (t * 2)) f ∙ replaced-at (lifeWord operators u) (tensors * 2) lifetimes (pos 0) (t * 2) (omega arith) (done .sized .roomy) ∙ two-first _ _ t;
         last-entry = λ t l.
-            ap (λ (xs : List ℤ). wordAt xs (t * 2 + 1)) f ∙ replaced-at (lifeWord operators u) (tensors * 2) lifetimes (pos 0) (t * 2 + 1) (omega arith) (done .sized .roomy) ∙ last-word operators u t;
+            ap (λ (xs : List ℤ). wordAt xs (t * 2 + 1)) f ∙ replaced-at (lifeWord operators u) (tensors * 2) lifetimes (pos 0) (t * 2 + 1) (omega arith) (done .sized .roomy) ∙ two-second _ _ t;
         life = λ t l. lives-so operators u natural-words named-low t (done .all-named t l);
         rest = λ i l. ap (λ (xs : List ℤ). wordAt xs i) f ∙ replaced-past (lifeWord operators u) (tensors * 2) lifetimes (pos 0) i l;
         long = ap length f ∙ replaced-length (lifeWord operators u) (tensors * 2) lifetimes;

@@ -22,8 +22,11 @@ pub const GREATEST_TENSORS: usize = 256;
 pub const LIFE_WORDS: usize = 2;
 // The roles: the operator reads the tensor or writes it; or the tensor goes into the model or comes out of it.
 pub const READS: u32 = 0;
+
 pub const WRITES: u32 = 1;
+
 pub const MODEL_INPUT: u32 = 2;
+
 pub const MODEL_OUTPUT: u32 = 3;
 
 // Use k of the list; past its end, a use of zeros.

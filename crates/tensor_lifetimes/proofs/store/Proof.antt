@@ -1,0 +1,112 @@
+-- `tensor_lifetimes::store` meets its contract: the entries so far are replaced.
+use Prim.Native.Nat.{_-_, _*_, _+_, _≤_}
+use mathlib.Core.List.{List}
+use mathlib.Core.Path.{_≡_, sym, _∙_, ap}
+use native.Mathlib.Omega.{arith}
+use denote.Ref.{now}
+use borrow.Author.Needs.{sfits-of}
+use lib.IntN.{ℤ, pos}
+use lib.ListN.{length, set, length-set}
+use mir.Facts.{toZ-pos}
+use mir.Syntax.{w32}
+use Rattle.bounded.specs.Replaced.{replaced, replaced-none, replaced-length}
+use Rattle.bounded.specs.TwoEach.{two-more}
+use Rattle.tensor_lifetimes.specs.Gathered.{lifeIn, storedWord}
+use Rattle.tensor_lifetimes.proofs.store.Statement.{statement}
+use Rattle.tensor_lifetimes.proofs.store.Tie as tie
+
+abbrev Inv-loop : tie.InvT-loop
+Inv-loop tensors lifetimes₀ lives n tensor₀ lifetimes tensor = (lifetimes ≡ replaced (storedWord lives) (tensor .0 * 2) lifetimes₀) × (tensor .0 ≤ n)
+
+abbrev μ-loop : tie.MeasureT-loop
+μ-loop tensors lifetimes₀ lives n tensor₀ lifetimes tensor = n - tensor .0
+
+-- the table is as long as it was
+long : (c : tie.At-loop Inv-loop μ-loop) → length (c .loop .lifetimes) ≡ length (now (c .before .args .lifetimes))
+long c = ap length (c .loop .inv .0) ∙ replaced-length _ (c .loop .tensor .0 * 2) (now (c .before .args .lifetimes))
+
+loop-holds : tie.Need-loop-holds Inv-loop μ-loop
+loop-holds c = (sym (replaced-none _ _), omega arith)
+
+mul-life : tie.Need-mul-life Inv-loop μ-loop
+mul-life c = omega (arith, c .if1 .taken)
+
+array-copy-out-life : tie.Need-array-copy-out-life Inv-loop μ-loop
+array-copy-out-life c = omega (arith, c .if1 .taken)
+
+mul-first-entry : tie.Need-mul-first-entry Inv-loop μ-loop
+mul-first-entry c = omega (arith, c .before .if1 .taken)
+
+add-last-entry : tie.Need-add-last-entry Inv-loop μ-loop
+add-last-entry c = omega (arith, c .before .if1 .taken)
+
+cast-lifetimes : tie.Need-cast-lifetimes Inv-loop μ-loop
+cast-lifetimes c =
+    let at = c .before .before .before .before in
+    sfits-of (omega (arith, at .before .pre .1 .first (at .loop .tensor .0) (c .before .before .if1 .taken)))
+
+mul-lifetimes : tie.Need-mul-lifetimes Inv-loop μ-loop
+mul-lifetimes c = omega (arith, c .before .before .if1 .taken)
+
+slice-set-from-lifetimes : tie.Need-slice-set-from-lifetimes Inv-loop μ-loop
+slice-set-from-lifetimes c = omega (arith, c .before .before .if1 .taken, long (c .before .before .before .before))
+
+cast-lifetimes-2 : tie.Need-cast-lifetimes-2 Inv-loop μ-loop
+cast-lifetimes-2 c =
+    let at = c .before .before .before .before .before in
+    sfits-of (omega (arith, at .before .pre .1 .last (at .loop .tensor .0) (c .before .before .before .if1 .taken)))
+
+mul-t12 : tie.Need-mul-t12 Inv-loop μ-loop
+mul-t12 c = omega (arith, c .before .before .before .if1 .taken)
+
+slice-set-from-lifetimes-2 : tie.Need-slice-set-from-lifetimes-2 Inv-loop μ-loop
+slice-set-from-lifetimes-2 c = simp length-set (omega (arith, c .before .before .before .if1 .taken, long (c .before .before .before .before .before)))
+
+add-t12 : tie.Need-add-t12 Inv-loop μ-loop
+add-t12 c = omega (arith, c .before .before .before .if1 .taken)
+
+loop-less : tie.Need-loop-less Inv-loop μ-loop
+loop-less c = omega (arith, c .before .before .before .if1 .taken)
+
+loop-again : tie.Need-loop-again Inv-loop μ-loop
+loop-again c =
+    let at = c .before .before .before .before .before in
+    let lives = at .before .args .t2 in
+    let t = at .loop .tensor .0 in
+    let l = c .before .before .before .if1 .taken in (
+      rw (toZ-pos w32 {n = lifeIn lives t .first .0} (omega (arith, at .before .pre .1 .first t l)), toZ-pos w32 {n = lifeIn lives t .last .0} (omega (arith, at .before .pre .1 .last t l)))
+          (ap (λ (xs : List ℤ). set (set xs (t * 2) (pos (lifeIn lives t .first .0))) (t * 2 + 1) (pos (lifeIn lives t .last .0))) (at .loop .inv .0) ∙ two-more _ _ t _),
+      omega arith,
+    )
+
+same-length : tie.Need-same-length Inv-loop μ-loop
+same-length c = long (c .before .before)
+
+returns : tie.Need-returns Inv-loop μ-loop
+returns c =
+    let at = c .before .before in
+    let e : at .loop .tensor .0 ≡ at .before .args .tensors = omega (arith, c .if1 .left, at .loop .inv .1) in
+    at .loop .inv .0 ∙ rw e
+
+pub store-spec : {M : Type 1} → statement M
+store-spec =
+    tie.close
+    (tie.spec
+    Inv-loop
+    μ-loop
+    loop-holds
+    mul-life
+    array-copy-out-life
+    mul-first-entry
+    add-last-entry
+    cast-lifetimes
+    mul-lifetimes
+    slice-set-from-lifetimes
+    cast-lifetimes-2
+    mul-t12
+    slice-set-from-lifetimes-2
+    add-t12
+    loop-less
+    loop-again
+    same-length
+    returns)

@@ -1,0 +1,88 @@
+-- What the code gathers of each tensor: what the first j uses say of it, one use after the other.
+use Prim.Native.Nat.{ℕ, _+_, _<_, _≤_, min, max}
+use mathlib.Core.Bool.{Bool, true, false, _&&_}
+use mathlib.Core.List.{List}
+use mathlib.Core.Path.{_≡_}
+use lib.Dec.{leb, ltb, eqb}
+use lib.IntN.{ℤ, pos}
+use lib.ListN.{getD}
+use Rattle.bounded.specs.First.{firstIn, holdsBelow}
+use Rattle.bounded.specs.Last.{lastIn}
+use Rattle.bounded.specs.TwoEach.{twoEach}
+use Rattle.lifetime_rule.specs.Lives.{names, lets}
+use Rattle.lifetime_rule.specs.Uses.{reads, writes, modelInput, greatestOperators, greatestTensors, count, useAt, good}
+use Rattle.lifetime_rule.specs.declared.Use.{Use}
+use Rattle.tensor_lifetimes.specs.declared.Life.{Life}
+
+-- Operator m names tensor t in one of the first j uses.
+unfoldable pub namedSoFar : List ℤ → ℕ → ℕ → ℕ → Bool
+namedSoFar u j t m = holdsBelow (λ k. names (useAt u k) t m) j
+
+-- One of the first j uses lets operator m read tensor t.
+unfoldable pub readableSoFar : List ℤ → ℕ → ℕ → ℕ → Bool
+readableSoFar u j t m = holdsBelow (λ k. lets (useAt u k) t m) j
+
+-- What the first j uses say of tensor t.
+unfoldable pub lifeSoFar : ℕ → List ℤ → ℕ → ℕ → Life
+lifeSoFar operators u j t =
+    record {
+      first = record { 0 = firstIn (namedSoFar u j t) 0 operators };
+      last = record { 0 = lastIn (namedSoFar u j t) operators };
+      readable = record { 0 = firstIn (readableSoFar u j t) 0 operators };
+    }
+
+-- What is known of a tensor before any use.
+abbrev pub noLife : ℕ → Life
+noLife operators = record { first = record { 0 = operators }; last = record { 0 = 0 }; readable = record { 0 = operators } }
+
+-- The lowest operator that may read a tensor, with one use of it more.
+unfoldable pub readableWith : ℕ → Use → ℕ
+readableWith r x = elim (eqb (x .role) modelInput) [ true ↦ 0 | false ↦ elim (eqb (x .role) writes) [ true ↦ min r (x .operator .0 + 1) | false ↦ r ] ]
+
+-- What is known of a tensor with one use of it more.
+unfoldable pub lifeWith : Life → Use → Life
+lifeWith l x =
+    elim (ltb modelInput (x .role)) [
+      | true ↦ l
+      | false ↦ record {
+        first = record { 0 = min (l .first .0) (x .operator .0) };
+        last = record { 0 = max (l .last .0) (x .operator .0) };
+        readable = record { 0 = readableWith (l .readable .0) x };
+      }
+    ]
+
+-- The life of a tensor in an array; past its end, one of zeros.
+abbrev pub lifeIn : List Life → ℕ → Life
+lifeIn lives t = getD lives t (noLife 0)
+
+-- A list of good uses, for some number of tensors within the limit.
+pub record GoodList (operators : ℕ) (u : List ℤ) : Type 0 where
+  pub tensors : ℕ
+  pub few-tensors : tensors ≤ greatestTensors
+  pub few-operators : operators ≤ greatestOperators
+  pub each : (k : ℕ) → k < count u → good operators tensors (useAt u k) ≡ true
+
+-- The array has what the whole list says of each tensor.
+pub record HoldsLives (operators : ℕ) (u : List ℤ) (lives : List Life) : Type 0 where
+  pub each : (t : ℕ) → t < greatestTensors → lifeIn lives t ≡ lifeSoFar operators u (count u) t
+
+-- Every use names a tensor within the limit.
+pub record FewTensors (u : List ℤ) : Type 0 where
+  pub each : (k : ℕ) → k < count u → useAt u k .tensor .0 < greatestTensors
+
+-- The moments of so many tensors are signed words.
+pub record SmallMoments (tensors : ℕ) (lives : List Life) : Type 0 where
+  pub first : (t : ℕ) → t < tensors → lifeIn lives t .first .0 ≤ greatestOperators
+  pub last : (t : ℕ) → t < tensors → lifeIn lives t .last .0 ≤ greatestOperators
+
+-- By the array, no operator names the tensor.
+abbrev pub unnamedIn : ℕ → List Life → ℕ → Bool
+unnamedIn operators lives t = leb operators (lifeIn lives t .first .0)
+
+-- By the array, the use reads a tensor that its operator may not read.
+abbrev pub earlyIn : List ℤ → List Life → ℕ → Bool
+earlyIn u lives k = eqb (useAt u k .role) reads && ltb (useAt u k .operator .0) (lifeIn lives (useAt u k .tensor .0) .readable .0)
+
+-- The entries of a table of lifetimes, from the array.
+abbrev pub storedWord : List Life → ℕ → ℤ
+storedWord lives = twoEach (λ t. pos (lifeIn lives t .first .0)) (λ t. pos (lifeIn lives t .last .0))

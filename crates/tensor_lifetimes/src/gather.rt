@@ -1,0 +1,94 @@
+// Gathering what the uses say of each tensor, one use after the other.
+ghost use Prim.Native.Nat.{_≤_, _<_, min, max};
+ghost use mathlib.Core.Path.{_≡_};
+ghost use lib.ListN.{replicate};
+ghost use Rattle.lifetime_rule.specs.Uses.{greatestOperators, greatestTensors};
+ghost use Rattle.tensor_lifetimes.specs.Gathered.{noLife, readableWith, lifeWith, HoldsLives, GoodList};
+use crate::Life;
+use lifetime_rule::Use;
+use operator_uses::GREATEST_TENSORS;
+use operator_uses::MODEL_INPUT;
+use operator_uses::USE_WORDS;
+use operator_uses::WRITES;
+use units::Moment;
+
+// The lower of two moments.
+fn earlier(a: Moment, b: Moment) -> Moment
+    ensures { λ r. ⌜ r .0 ≡ min (a .0) (b .0) ⌝ }
+{
+    if b.0 < a.0 {
+        return b;
+    }
+    a
+}
+
+// The higher of two moments.
+fn later(a: Moment, b: Moment) -> Moment
+    ensures { λ r. ⌜ r .0 ≡ max (a .0) (b .0) ⌝ }
+{
+    if a.0 < b.0 {
+        return b;
+    }
+    a
+}
+
+// The lowest operator that may read the tensor, with one use of it more: any may read a model input, and a write lets those after its operator.
+fn readable_with(readable: Moment, one: Use) -> Moment
+    requires { ⌜ one .operator .0 ≤ greatestOperators ⌝ }
+    ensures { λ r. ⌜ r .0 ≡ readableWith (readable .0) one ⌝ }
+{
+    if one.role == MODEL_INPUT {
+        return Moment(0);
+    }
+    if one.role == WRITES {
+        return earlier(readable, Moment(one.operator.0 + 1));
+    }
+    readable
+}
+
+// What is known of a tensor with one use of it more. A model output says nothing; the operator of a model input is 0.
+fn life_with(life: Life, one: Use) -> Life
+    requires { ⌜ one .operator .0 ≤ greatestOperators ⌝ }
+    ensures { λ r. ⌜ r ≡ lifeWith life one ⌝ }
+{
+    if MODEL_INPUT < one.role {
+        return life;
+    }
+    let first = earlier(life.first, one.operator);
+    let last = later(life.last, one.operator);
+    let readable = readable_with(life.readable, one);
+    Life {
+        first,
+        last,
+        readable,
+    }
+}
+
+// What is known of each tensor before any use.
+fn no_lives(operators: u32) -> [Life; GREATEST_TENSORS]
+    ensures { λ r. ⌜ r ≡ replicate greatestTensors (noLife operators) ⌝ }
+{
+    [Life {
+        first: Moment(operators),
+        last: Moment(0),
+        readable: Moment(operators),
+    }; GREATEST_TENSORS]
+}
+
+// What a list of good uses says of each tensor.
+pub(crate) fn gather(operators: u32, uses: &[i32]) -> [Life; GREATEST_TENSORS]
+    requires { ⌜ GoodList operators (now uses) ⌝ }
+    ensures { λ r. ⌜ HoldsLives operators (now (uses .entry)) r ⌝ }
+{
+    let n = uses.len() / USE_WORDS;
+    let mut lives = no_lives(operators);
+    let mut k = 0;
+    while k < n {
+        let one = operator_uses::use_at(uses, k);
+        let at = one.tensor.0;
+        let life = lives[at];
+        lives[at] = life_with(life, one);
+        k += 1;
+    }
+    lives
+}

@@ -1,0 +1,125 @@
+// Lives from an operator list (document 01, "The desk's order of checks", Lives): one pass over the uses gathers what they say of each tensor, and one
+// more finds the lowest use that reads too early.
+mod gather;
+
+ghost use Prim.Native.Nat.{_*_, _<_, _≤_};
+ghost use mathlib.Core.Path.{_≡_};
+ghost use lib.ListN.{length};
+ghost use Rattle.bounded.specs.First.{firstIn};
+ghost use Rattle.bounded.specs.Replaced.{replaced};
+ghost use Rattle.lifetime_rule.specs.Answers.{Sized, EachGood};
+ghost use Rattle.lifetime_rule.specs.Lifetimes.{livesOf, lifetimesOf, finalLifetimes};
+ghost use Rattle.lifetime_rule.specs.Uses.{count as countOf, greatestTensors, greatestUses};
+ghost use Rattle.tensor_lifetimes.specs.Gathered.{HoldsLives, SmallMoments, FewTensors, unnamedIn, earlyIn, storedWord};
+use answer::Answer;
+use operator_uses::GREATEST_TENSORS;
+use operator_uses::LIFE_WORDS;
+use operator_uses::READS;
+use operator_uses::USE_WORDS;
+use units::Moment;
+use units::Tensor;
+
+// What the uses say of a tensor: the lowest and the highest operator that names it, and the lowest that may read it. Where there is none, the number of
+// operators stands for a lowest one, and 0 for the highest.
+pub struct Life {
+    pub first: Moment,
+    pub last: Moment,
+    pub readable: Moment,
+}
+
+// The lowest tensor that no operator names, else the number of tensors.
+fn lowest_unnamed(operators: u32, tensors: u32, lives: [Life; GREATEST_TENSORS]) -> Tensor
+    requires { ⌜ tensors ≤ greatestTensors ⌝ }
+    ensures { λ r. ⌜ r .0 ≡ firstIn (unnamedIn operators lives) 0 tensors ⌝ }
+{
+    let n = tensors as usize;
+    let mut tensor = Tensor(0);
+    while tensor.0 < n {
+        let at = tensor.0;
+        let life = lives[at];
+        if operators <= life.first.0 {
+            return tensor;
+        }
+        tensor = Tensor(at + 1);
+    }
+    tensor
+}
+
+// The lowest use that reads a tensor before it may be read, else the number of uses.
+fn lowest_early(uses: &[i32], lives: [Life; GREATEST_TENSORS]) -> usize
+    requires { ⌜ FewTensors (now uses) ⌝ }
+    ensures { λ r. ⌜ r ≡ firstIn (earlyIn (now (uses .entry)) lives) 0 (countOf (now (uses .entry))) ⌝ }
+{
+    let n = uses.len() / USE_WORDS;
+    let mut k = 0;
+    while k < n {
+        let one = operator_uses::use_at(uses, k);
+        let at = one.tensor.0;
+        let life = lives[at];
+        if (one.role == READS) & (one.operator.0 < life.readable.0) {
+            return k;
+        }
+        k += 1;
+    }
+    k
+}
+
+// The checks 20 and 21: the tensors that no operator names, and the uses that read too early.
+fn judge(operators: u32, tensors: u32, uses: &[i32], lives: [Life; GREATEST_TENSORS]) -> Answer
+    requires { ⌜ EachGood operators tensors (now uses) ⌝ }
+    requires { ⌜ HoldsLives operators (now uses) lives ⌝ }
+    requires { ⌜ (tensors ≤ greatestTensors) × (countOf (now uses) ≤ greatestUses) ⌝ }
+    ensures { λ r. ⌜ r ≡ livesOf operators tensors (now (uses .entry)) ⌝ }
+{
+    let unnamed = lowest_unnamed(operators, tensors, lives);
+    let early = lowest_early(uses, lives);
+    let tensor = unnamed.0 as u32;
+    let place = early as u32;
+    let never_named = tensor < tensors;
+    let read_early = early < uses.len() / USE_WORDS;
+    if never_named {
+        return Answer::refused_at(Answer::TENSOR_NEVER_NAMED, tensor);
+    }
+    if read_early {
+        return Answer::refused_at(Answer::READ_BEFORE_WRITTEN, place);
+    }
+    Answer::done(0)
+}
+
+// Stores the lives of so many tensors, two entries each, in the first entries of the table.
+fn store(tensors: u32, lives: [Life; GREATEST_TENSORS], lifetimes: &mut [i32])
+    requires { ⌜ (tensors ≤ greatestTensors) × (tensors * 2 ≤ length (now lifetimes)) ⌝ }
+    requires { ⌜ SmallMoments tensors lives ⌝ }
+    ensures { λ _. ⌜ now (lifetimes .exit) ≡ replaced (storedWord lives) (tensors * 2) (now (lifetimes .entry)) ⌝ }
+{
+    let n = tensors as usize;
+    let mut tensor = Tensor(0);
+    while tensor.0 < n {
+        let at = tensor.0;
+        let life = lives[at];
+        let first_entry = at * LIFE_WORDS;
+        let last_entry = first_entry + 1;
+        lifetimes[first_entry] = life.first.0 as i32;
+        lifetimes[last_entry] = life.last.0 as i32;
+        tensor = Tensor(at + 1);
+    }
+}
+
+// Document 01's lives. Refused: 1, 2, 3, 5, 20, 21, in that order, and nothing changes; done: all zeros, and in the first entries of `lifetimes` the first
+// and the last operator of each tensor.
+pub fn from_uses(operators: u32, tensors: u32, uses: &[i32], lifetimes: &mut [i32]) -> Answer
+    ensures answer { λ r. ⌜ r ≡ lifetimesOf operators tensors (now (uses .entry)) (length (now (lifetimes .entry))) ⌝ }
+    ensures table { λ _. ⌜ now (lifetimes .exit) ≡ finalLifetimes operators tensors (now (uses .entry)) (now (lifetimes .entry)) ⌝ }
+{
+    let checked = operator_uses::check(operators, tensors, uses, lifetimes.len());
+    if checked.number != Answer::DONE {
+        return checked;
+    }
+    let lives = gather::gather(operators, uses);
+    let judged = judge(operators, tensors, uses, lives);
+    if judged.number != Answer::DONE {
+        return judged;
+    }
+    store(tensors, lives, lifetimes);
+    judged
+}
