@@ -1,6 +1,6 @@
 -- Document 01's bench sheets, those marked *: one table, one statement. Each sheet has what the definitions give and what is wanted, an answer and
 -- the words of the table or state after it (offsets; lifetimes; head, temp, tail and usable). The statement is that the two columns are equal, and
--- the checker computes it. A planner's sheet lends a table of one entry more than rows, filled with 7, so that what stays is seen too.
+-- the checker computes it. A planner's or lives' sheet lends a table of one entry more than it needs, filled with 7, so that what stays is seen too.
 use Prim.Native.Nat.{ℕ}
 use mathlib.Core.List.{List, [], _∷_, _++_, map}
 use mathlib.Core.Path.{_≡_, refl}
@@ -9,7 +9,7 @@ use lib.ListN.{length}
 use Rattle.alignment.specs.Alignments.{loss, allowed}
 use Rattle.alignment.specs.Powers.{isPowerOfTwo}
 use Rattle.alignment.specs.Rounding.{roundedUp, roundedDown}
-use Rattle.answer.specs.Answer.{doneWith, doneAt, refused, refusedPair, refusedNeed, fixedRowsCollide, needExceedsSpace, noRoom, temporariesOut}
+use Rattle.answer.specs.Answer.{doneWith, doneAt, refused, refusedAt, refusedPair, refusedNeed, fixedRowsCollide, needExceedsSpace, noRoom, temporariesOut, readBeforeWritten}
 use Rattle.answer.specs.declared.Answer.{Answer}
 use Rattle.arena_sections.specs.History.{Operation, outcomeOf, after}
 use Rattle.arena_sections.specs.History.Operation.{allocatePersistent, allocateTemp, setHead}
@@ -18,9 +18,11 @@ use Rattle.arena_sections.specs.declared.Outcome.{Outcome}
 use Rattle.bounded.specs.Count.{one, count}
 use Rattle.bounded.specs.First.{firstFrom, firstIn, holdsBelow}
 use Rattle.bounded.specs.Greatest.{greatest}
+use Rattle.bounded.specs.Last.{lastIn}
 use Rattle.bounded.specs.InOrder.{listFrom, rank, atRank, inOrder}
 use Rattle.bounded.specs.Pair.{partner, hasPartner, pairBelow, pairFirst, pairSecond}
 use Rattle.bounded.specs.Replaced.{replaced}
+use Rattle.bounded.specs.TwoEach.{twoEach}
 use Rattle.words.specs.Words.{natural, isMinusOne}
 use Rattle.request_table.specs.Buffers.{liveTogether, shareByte, collides, endOrZero, need}
 use Rattle.request_table.specs.Limits.{grid}
@@ -28,6 +30,9 @@ use Rattle.request_table.specs.Table.{request, good}
 use Rattle.placement.specs.Placing.{put, free, top, lowest, offsetFor, placing, place}
 use Rattle.greedy_rule.specs.Greedy.{largerFirst, fixedRows, greedyOrder, greedyPlan}
 use Rattle.greedy_rule.specs.Plan.{fixedCollide, greedyNeed, planOf, plannedTable}
+use Rattle.lifetime_rule.specs.Lifetimes.{outOfLimits, lifetimesOf, finalLifetimes}
+use Rattle.lifetime_rule.specs.Lives.{names, named, firstOf, lastOf, unnamed, lets, readable, tooEarly}
+use Rattle.lifetime_rule.specs.Uses.{reads, writes, modelInput, modelOutput, useAt, good as goodUse}
 
 -- An answer, and the words after it.
 pub record Result : Type 0 where
@@ -138,13 +143,44 @@ section-sheet =
     ∷ operated (later (keep 10 8 ∷ allocateTemp 20 16 ∷ keep 2013 1 ∷ keep 2012 1 ∷ []) (setHead 64)) (refused temporariesOut) (pos 0 ∷ pos 20 ∷ pos 20 ∷ pos 2043 ∷ [])
     ∷ []
 
+-- ---- the lives' sheets
+
+-- A use: operator, tensor, role.
+abbrev one-use : ℕ → ℕ → ℕ → List ℤ
+one-use operator tensor role = pos operator ∷ pos tensor ∷ pos role ∷ []
+
+-- The lives of so many tensors under so many operators, over a lent table, and the answer and words that are wanted.
+abbrev lived : ℕ → ℕ → List ℤ → List ℤ → Answer → List ℤ → Sheet
+lived operators tensors uses lent answer words =
+    record {
+      given = record { answer = lifetimesOf operators tensors uses (length lent); words = finalLifetimes operators tensors uses lent };
+      wanted = record { answer = answer; words = words };
+    }
+
+-- Tensor 0 is a model input.
+abbrev input-use : List ℤ
+input-use = one-use 0 0 modelInput
+
+-- Tensor 1 is written and a model output; tensor 2 is written by an operator and read by the next.
+abbrev other-uses : List ℤ
+other-uses = one-use 0 0 reads ++ (one-use 0 1 writes ++ (one-use 0 1 modelOutput ++ (one-use 1 0 reads ++ (one-use 1 2 writes ++ one-use 2 2 reads))))
+
+abbrev seven-entries : List ℤ
+seven-entries = pos 7 ∷ pos 7 ∷ pos 7 ∷ four-entries
+
+abbrev life-sheets : List Sheet
+life-sheets =
+    lived 3 3 (input-use ++ other-uses) seven-entries (doneWith 0) (pos 0 ∷ pos 1 ∷ pos 0 ∷ pos 0 ∷ pos 1 ∷ pos 2 ∷ one-entry)
+    ∷ lived 3 3 other-uses seven-entries (refusedAt readBeforeWritten 0) seven-entries
+    ∷ []
+
 -- ---- the table
 
 -- Every starred sheet.
 abbrev pub sheets : List Sheet
-sheets = planner-sheets ++ section-sheet
+sheets = planner-sheets ++ (section-sheet ++ life-sheets)
 
 -- The two columns are equal.
 pub sheets-hold : map (λ (s : Sheet). s .given) sheets ≡ map (λ (s : Sheet). s .wanted) sheets
-unfolding one count firstFrom firstIn holdsBelow greatest listFrom rank atRank inOrder partner hasPartner pairBelow pairFirst pairSecond replaced natural isMinusOne roundedUp roundedDown isPowerOfTwo loss allowed liveTogether shareByte collides endOrZero need request good put free top lowest offsetFor placing place largerFirst fixedRows greedyOrder greedyPlan fixedCollide greedyNeed planOf plannedTable valid notUsable openOf persistentFull persistentOf tempFull tempOf headOf after
+unfolding one count firstFrom firstIn holdsBelow greatest listFrom rank atRank inOrder partner hasPartner pairBelow pairFirst pairSecond replaced natural isMinusOne roundedUp roundedDown isPowerOfTwo loss allowed liveTogether shareByte collides endOrZero need request good put free top lowest offsetFor placing place largerFirst fixedRows greedyOrder greedyPlan fixedCollide greedyNeed planOf plannedTable valid notUsable openOf persistentFull persistentOf tempFull tempOf headOf after lastIn twoEach useAt goodUse names named firstOf lastOf unnamed lets readable tooEarly outOfLimits lifetimesOf finalLifetimes
 sheets-hold = refl

@@ -1,6 +1,5 @@
 // Reading the operator list (document 01, "The desk's order of checks", Lives): its uses, whether a use is good; and the checks 1, 2, 3 and 5 of the lives.
 // All is total: any list, any use, any numbers of operators and tensors.
-ghost use Prim.Native.Nat.{_≤_};
 ghost use mathlib.Core.Path.{_≡_};
 ghost use Rattle.bounded.specs.First.{firstIn};
 ghost use Rattle.lifetime_rule.specs.Uses.{count as countOf, useAt, good, badUse};

@@ -1,18 +1,18 @@
 -- Gathering the uses one after the other: what one use adds to what is known of each tensor.
 use Prim.Native.Nat.{ℕ, _+_, _<_, _≤_, min, max, zero-le}
-use mathlib.Core.Bool.{Bool, true, false, _||_, or-false}
+use mathlib.Core.Bool.{Bool, true, false, _&&_, _||_, or-false}
 use mathlib.Core.List.{List}
 use mathlib.Core.Logic.{_⊎_, inl, inr, ⊎-elim}
 use mathlib.Core.Path.{_≡_, refl, sym, _∙_, ap, subst}
 use native.Mathlib.Omega.{arith}
-use borrow.Author.Tests.{lt-ltb, le-ltb, eq-eqb, ne-eqb}
+use borrow.Author.Tests.{ltb-true, ltb-false, lt-ltb, le-ltb, eq-eqb, ne-eqb}
 use lib.Dec.{ltb, eqb}
 use lib.IntN.{ℤ}
 use lib.ListN.{length, set, replicate, length-set, length-replicate, getD-replicate}
 use lib.Seq.{getD-set-same, getD-set-other}
-use Rattle.bounded.specs.Boolean.{same-or-not}
+use Rattle.bounded.specs.Boolean.{both, same-or-not}
 use Rattle.bounded.specs.First.{firstIn, first-is, one-first, first-none, first-same, first-either, holds-more, none-found}
-use Rattle.bounded.specs.Last.{lastIn, last-bound, one-last, last-none, last-same, last-either}
+use Rattle.bounded.specs.Last.{endIn, end-bound, end-after, end-none, end-same, end-either}
 use Rattle.lifetime_rule.specs.GoodUses.{Role, reading, writing, input, output, role-of, Tests, tests}
 use Rattle.lifetime_rule.specs.Lives.{names, lets}
 use Rattle.lifetime_rule.specs.Uses.{reads, writes, modelInput, modelOutput, greatestOperators, greatestTensors, count, useAt, good}
@@ -22,13 +22,17 @@ use Rattle.tensor_lifetimes.specs.declared.Life.{Life}
 
 -- ---- before any use
 
+-- What the code starts from.
+pub unknown : (operators : ℕ) → _≡_ {A = Life} (record { first = record { 0 = operators }; end = record { 0 = 0 }; readable = record { 0 = operators } }) (noLife operators)
+unknown operators = refl
+
 pub nothing-known : (operators : ℕ) (u : List ℤ) (t : ℕ) → noLife operators ≡ lifeSoFar operators u 0 t
 unfolding lifeSoFar namedSoFar readableSoFar
 nothing-known operators u t =
     let first = first-none (namedSoFar u 0 t) operators (λ m l. none-found (λ k. names (useAt u k) t m) 0 (λ k z. absurd (omega arith))) in
-    let last = last-none (namedSoFar u 0 t) operators (λ m l. none-found (λ k. names (useAt u k) t m) 0 (λ k z. absurd (omega arith))) in
+    let end = end-none (namedSoFar u 0 t) operators (λ m l. none-found (λ k. names (useAt u k) t m) 0 (λ k z. absurd (omega arith))) in
     let readable = first-none (readableSoFar u 0 t) operators (λ m l. none-found (λ k. lets (useAt u k) t m) 0 (λ k z. absurd (omega arith))) in
-    sym (λ i. record { first = record { 0 = first i }; last = record { 0 = last i }; readable = record { 0 = readable i } })
+    sym (λ i. record { first = record { 0 = first i }; end = record { 0 = end i }; readable = record { 0 = readable i } })
 
 -- ---- one use more
 
@@ -41,19 +45,19 @@ module _ (operators : ℕ) (u : List ℤ) (j t : ℕ) where
   unfolding readableSoFar
   readable-more m = holds-more (λ k. lets (useAt u k) t m) j
 
-  -- With what the use itself adds to the first, the last and the lowest that may read.
-  adds : {first last readable : ℕ} → firstIn (names (useAt u j) t) 0 operators ≡ first → lastIn (names (useAt u j) t) operators ≡ last → firstIn (lets (useAt u j) t) 0 operators ≡ readable
+  -- With what the use itself adds to the first, the end and the lowest that may read.
+  adds : {first end readable : ℕ} → firstIn (names (useAt u j) t) 0 operators ≡ first → endIn (names (useAt u j) t) operators ≡ end → firstIn (lets (useAt u j) t) 0 operators ≡ readable
       → lifeSoFar operators u (j + 1) t ≡ record {
         first = record { 0 = min (lifeSoFar operators u j t .first .0) first };
-        last = record { 0 = max (lifeSoFar operators u j t .last .0) last };
+        end = record { 0 = max (lifeSoFar operators u j t .end .0) end };
         readable = record { 0 = min (lifeSoFar operators u j t .readable .0) readable };
       }
   unfolding lifeSoFar
   adds f l r =
       let first = first-same _ _ 0 operators (λ m z y. named-more m) ∙ first-either (namedSoFar u j t) (names (useAt u j) t) operators ∙ ap (λ (n : ℕ). min (firstIn (namedSoFar u j t) 0 operators) n) f in
-      let last = last-same _ _ operators (λ m z. named-more m) ∙ last-either (namedSoFar u j t) (names (useAt u j) t) operators ∙ ap (λ (n : ℕ). max (lastIn (namedSoFar u j t) operators) n) l in
+      let end = end-same _ _ operators (λ m z. named-more m) ∙ end-either (namedSoFar u j t) (names (useAt u j) t) operators ∙ ap (λ (n : ℕ). max (endIn (namedSoFar u j t) operators) n) l in
       let readable = first-same _ _ 0 operators (λ m z y. readable-more m) ∙ first-either (readableSoFar u j t) (lets (useAt u j) t) operators ∙ ap (λ (n : ℕ). min (firstIn (readableSoFar u j t) 0 operators) n) r in
-      λ i. record { first = record { 0 = first i }; last = record { 0 = last i }; readable = record { 0 = readable i } }
+      λ i. record { first = record { 0 = first i }; end = record { 0 = end i }; readable = record { 0 = readable i } }
 
 -- ---- what a use adds, by its role
 
@@ -63,8 +67,8 @@ first-at p n o l f =
     one-first p 0 n o
     record { low = zero-le; high = omega arith; before = λ k z m. f k ∙ ne-eqb o k (omega arith); at = λ z. f o ∙ eq-eqb o o refl }
 
-last-at : (p : ℕ → Bool) (n o : ℕ) → o < n → ((m : ℕ) → p m ≡ eqb o m) → lastIn p n ≡ o
-last-at p n o l f = one-last p n o record { within = l; passes = f o ∙ eq-eqb o o refl; after = λ k m z. f k ∙ ne-eqb o k (omega arith) }
+end-at : (p : ℕ → Bool) (n o : ℕ) → o < n → ((m : ℕ) → p m ≡ eqb o m) → endIn p n ≡ o + 1
+end-at p n o l f = end-after p n o record { within = l; passes = f o ∙ eq-eqb o o refl; after = λ k m z. f k ∙ ne-eqb o k (omega arith) }
 
 -- Those after the operator.
 first-after : (p : ℕ → Bool) (n o : ℕ) → o < n → ((m : ℕ) → p m ≡ ltb o m) → firstIn p 0 n ≡ o + 1
@@ -78,9 +82,9 @@ first-all p n f = one-first p 0 n 0 record { low = zero-le; high = zero-le; befo
 
 -- What is known of a tensor is within the number of operators.
 pub known-high : (operators : ℕ) (u : List ℤ) (j t : ℕ)
-    → (lifeSoFar operators u j t .first .0 ≤ operators) × (lifeSoFar operators u j t .last .0 ≤ operators) × (lifeSoFar operators u j t .readable .0 ≤ operators)
+    → (lifeSoFar operators u j t .first .0 ≤ operators) × (lifeSoFar operators u j t .end .0 ≤ operators) × (lifeSoFar operators u j t .readable .0 ≤ operators)
 unfolding lifeSoFar
-known-high operators u j t = (first-is (namedSoFar u j t) 0 operators zero-le .high, last-bound (namedSoFar u j t) operators, first-is (readableSoFar u j t) 0 operators zero-le .high)
+known-high operators u j t = (first-is (namedSoFar u j t) 0 operators zero-le .high, end-bound (namedSoFar u j t) operators, first-is (readableSoFar u j t) 0 operators zero-le .high)
 
 module _ (operators : ℕ) (u : List ℤ) (j t : ℕ) where
   -- A use of another tensor, or of role 3, adds nothing.
@@ -88,11 +92,11 @@ module _ (operators : ℕ) (u : List ℤ) (j t : ℕ) where
   nothing-added f g =
       let h = known-high operators u j t in
       let first : min (lifeSoFar operators u j t .first .0) operators ≡ lifeSoFar operators u j t .first .0 = omega (arith, h .0) in
-      let last : max (lifeSoFar operators u j t .last .0) 0 ≡ lifeSoFar operators u j t .last .0 = omega arith in
+      let end : max (lifeSoFar operators u j t .end .0) 0 ≡ lifeSoFar operators u j t .end .0 = omega arith in
       let readable : min (lifeSoFar operators u j t .readable .0) operators ≡ lifeSoFar operators u j t .readable .0 = omega (arith, h .2) in
       sym
-      (adds operators u j t (first-none _ operators (λ m l. f m)) (last-none _ operators (λ m l. f m)) (first-none _ operators (λ m l. g m))
-      ∙ (λ i. record { first = record { 0 = first i }; last = record { 0 = last i }; readable = record { 0 = readable i } }))
+      (adds operators u j t (first-none _ operators (λ m l. f m)) (end-none _ operators (λ m l. f m)) (first-none _ operators (λ m l. g m))
+      ∙ (λ i. record { first = record { 0 = first i }; end = record { 0 = end i }; readable = record { 0 = readable i } }))
 
   -- A use of another tensor adds nothing.
   pub other-tensor : (useAt u j .tensor .0 ≡ t → ⊥) → lifeSoFar operators u j t ≡ lifeSoFar operators u (j + 1) t
@@ -145,13 +149,20 @@ module _ (r : ℕ) (x : Use) where
   unfolding readableWith
   readable-input q = rw q
 
-  pub readable-write : {v : ℕ} → (x .role ≡ modelInput → ⊥) → x .role ≡ writes → v ≡ min r (x .operator .0 + 1) → v ≡ readableWith r x
+  pub readable-write : (x .role ≡ modelInput → ⊥) → eqb (x .role) writes && ltb (x .operator .0 + 1) r ≡ true → x .operator .0 + 1 ≡ readableWith r x
   unfolding readableWith
-  readable-write f q e = rw q e
+  readable-write f e =
+      let a = both (eqb (x .role) writes) (ltb (x .operator .0 + 1) r) e in
+      let lower : x .operator .0 + 1 ≡ min r (x .operator .0 + 1) = omega (arith, ltb-true (x .operator .0 + 1) r (a .1)) in
+      rw (ne-eqb (x .role) modelInput f, readableWith, a .0) lower
 
-  pub readable-stays : (x .role ≡ modelInput → ⊥) → (x .role ≡ writes → ⊥) → r ≡ readableWith r x
+  pub readable-stays : (x .role ≡ modelInput → ⊥) → eqb (x .role) writes && ltb (x .operator .0 + 1) r ≡ false → r ≡ readableWith r x
   unfolding readableWith
-  readable-stays f g = rw (ne-eqb (x .role) modelInput f, readableWith, ne-eqb (x .role) writes g)
+  readable-stays f e = rw (ne-eqb (x .role) modelInput f, readableWith) (go (eqb (x .role) writes) e)
+    where
+      go : (b : Bool) → b && ltb (x .operator .0 + 1) r ≡ false → _≡_ {A = ℕ} r (elim b [ true ↦ min r (x .operator .0 + 1) | false ↦ r ])
+      go true q = omega (arith, ltb-false (x .operator .0 + 1) r q)
+      go false q = refl
 
 -- The whole of what is known, as each way through the code has it,
 module _ (l : Life) (x : Use) where
@@ -159,16 +170,16 @@ module _ (l : Life) (x : Use) where
   unfolding lifeWith
   life-stays h = rw (lt-ltb modelInput (x .role) h, lifeWith)
 
-  pub life-counts : {f a r : ℕ} → x .role ≤ modelInput → f ≡ min (l .first .0) (x .operator .0) → a ≡ max (l .last .0) (x .operator .0) → r ≡ readableWith (l .readable .0) x
-      → _≡_ {A = Life} (record { first = record { 0 = f }; last = record { 0 = a }; readable = record { 0 = r } }) (lifeWith l x)
+  pub life-counts : {f a r : ℕ} → x .role ≤ modelInput → f ≡ min (l .first .0) (x .operator .0) → a ≡ max (l .end .0) (x .operator .0 + 1) → r ≡ readableWith (l .readable .0) x
+      → _≡_ {A = Life} (record { first = record { 0 = f }; end = record { 0 = a }; readable = record { 0 = r } }) (lifeWith l x)
   unfolding lifeWith
-  life-counts h p q s = rw (le-ltb modelInput (x .role) h, lifeWith) (λ i. record { first = record { 0 = p i }; last = record { 0 = q i }; readable = record { 0 = s i } })
+  life-counts h p q s = rw (le-ltb modelInput (x .role) h, lifeWith) (λ i. record { first = record { 0 = p i }; end = record { 0 = q i }; readable = record { 0 = s i } })
 
 -- and by the use's role.
 module _ (l : Life) (x : Use) where
   abbrev with-readable : ℕ → Life
   with-readable readable =
-      record { first = record { 0 = min (l .first .0) (x .operator .0) }; last = record { 0 = max (l .last .0) (x .operator .0) }; readable = record { 0 = readable } }
+      record { first = record { 0 = min (l .first .0) (x .operator .0) }; end = record { 0 = max (l .end .0) (x .operator .0 + 1) }; readable = record { 0 = readable } }
 
   with-read : x .role ≡ reads → lifeWith l x ≡ with-readable (l .readable .0)
   unfolding lifeWith readableWith
@@ -200,20 +211,20 @@ module _ (operators tensors : ℕ) (u : List ℤ) (j : ℕ) where
       let all : min (known .readable .0) operators ≡ known .readable .0 = omega (arith, known-high operators u j (one .tensor .0) .2) in
       with-read known one q
       ∙ sym
-      (adds operators u j (one .tensor .0) (first-at _ operators _ (g .operator) (λ m. acts-names one m (inl q))) (last-at _ operators _ (g .operator) (λ m. acts-names one m (inl q)))
+      (adds operators u j (one .tensor .0) (first-at _ operators _ (g .operator) (λ m. acts-names one m (inl q))) (end-at _ operators _ (g .operator) (λ m. acts-names one m (inl q)))
       (first-none _ operators (λ m l. others-let one m (inl q)))
       ∙ ap (with-readable known one) all)
   by-role g (writing q) =
       with-write known one q
       ∙ sym
-      (adds operators u j (one .tensor .0) (first-at _ operators _ (g .operator) (λ m. acts-names one m (inr q))) (last-at _ operators _ (g .operator) (λ m. acts-names one m (inr q)))
+      (adds operators u j (one .tensor .0) (first-at _ operators _ (g .operator) (λ m. acts-names one m (inr q))) (end-at _ operators _ (g .operator) (λ m. acts-names one m (inr q)))
       (first-after _ operators _ (g .operator) (λ m. write-lets one m q)))
   by-role g (input q) =
       let z : one .operator .0 ≡ 0 = ⊎-elim (λ l. absurd (omega (arith, q))) (λ e. e) (g .zero-outside) in
       let all : min (known .readable .0) 0 ≡ 0 = omega arith in
       with-input known one q
       ∙ sym
-      (adds operators u j (one .tensor .0) (first-at _ operators _ (g .operator) (λ m. input-names one m q z)) (last-at _ operators _ (g .operator) (λ m. input-names one m q z))
+      (adds operators u j (one .tensor .0) (first-at _ operators _ (g .operator) (λ m. input-names one m q z)) (end-at _ operators _ (g .operator) (λ m. input-names one m q z))
       (first-all _ operators (λ m. input-lets one m q))
       ∙ ap (with-readable known one) all)
   by-role g (output q) =

@@ -1,15 +1,16 @@
 -- What the array says of a tensor or a use is what the definitions say.
-use Prim.Native.Nat.{ℕ, _*_, _<_, _≤_, zero-le}
-use mathlib.Core.Bool.{Bool, true, not, _&&_, _||_, or-true}
+use Prim.Native.Nat.{ℕ, _*_, _-_, _<_, _≤_, zero-le}
+use mathlib.Core.Bool.{Bool, true, false, not, _&&_, _||_, or-true}
 use mathlib.Core.List.{List}
 use mathlib.Core.Logic.{_⊎_, inl, inr}
 use mathlib.Core.Path.{_≡_, sym, _∙_, ap}
 use native.Mathlib.Omega.{arith}
-use borrow.Author.Tests.{ltb-true, lt-ltb, le-ltb, le-leb, lt-leb}
+use borrow.Author.Tests.{not-false, ltb-true, lt-ltb, le-ltb, le-leb, lt-leb}
 use lib.Dec.{leb, ltb, eqb}
 use lib.IntN.{ℤ, pos}
 use Rattle.bounded.specs.Boolean.{both, both-hold, either, lt-or-le}
 use Rattle.bounded.specs.First.{firstIn, holdsBelow, first-is, first-same, found, some-found}
+use Rattle.bounded.specs.Last.{before-end, last-before-end}
 use Rattle.bounded.specs.Replaced.{replaced, replaced-same}
 use Rattle.bounded.specs.TwoEach.{two-same}
 use Rattle.lifetime_rule.specs.Answers.{EachGood}
@@ -17,7 +18,7 @@ use Rattle.lifetime_rule.specs.GoodUses.{tests}
 use Rattle.lifetime_rule.specs.Lives.{named, firstOf, lastOf, unnamed, lets, readable, tooEarly, lifeWord}
 use Rattle.lifetime_rule.specs.Uses.{reads, writes, modelInput, greatestOperators, greatestTensors, count, useAt, good}
 use Rattle.lifetime_rule.specs.declared.Use.{Use}
-use Rattle.tensor_lifetimes.specs.Gathered.{namedSoFar, readableSoFar, lifeSoFar, lifeIn, HoldsLives, FewTensors, SmallMoments, unnamedIn, earlyIn, storedWord}
+use Rattle.tensor_lifetimes.specs.Gathered.{namedSoFar, readableSoFar, lifeSoFar, lifeIn, HoldsLives, FewTensors, StorableLives, unnamedIn, earlyIn, storedWord}
 use Rattle.tensor_lifetimes.proofs.Gathering.{known-high}
 use Rattle.tensor_lifetimes.specs.declared.Life.{Life}
 
@@ -90,14 +91,19 @@ module _ {operators : ℕ} {u : List ℤ} {lives : List Life} (h : HoldsLives op
   unfolding lifeSoFar namedSoFar firstOf lastOf named
   stored-is tensors lifetimes few =
       replaced-same (storedWord lives) (lifeWord operators u) (tensors * 2) lifetimes
-      (two-same _ _ _ _ tensors (λ t l. ap (λ (x : Life). pos (x .first .0)) (h .each t (omega arith))) (λ t l. ap (λ (x : Life). pos (x .last .0)) (h .each t (omega arith))))
+      (two-same _ _ _ _ tensors (λ t l. ap (λ (x : Life). pos (x .first .0)) (h .each t (omega arith)))
+      (λ t l. ap (λ (x : Life). pos (x .end .0 - 1)) (h .each t (omega arith)) ∙ ap pos (last-before-end (named u t) operators)))
 
-  -- They are signed words.
-  pub small-moments : (tensors : ℕ) → tensors ≤ greatestTensors → operators ≤ greatestOperators → SmallMoments tensors lives
-  small-moments tensors few low =
+  -- They can be stored, where every tensor is named.
+  pub storable : (tensors : ℕ) → tensors ≤ greatestTensors → operators ≤ greatestOperators → ((t : ℕ) → t < tensors → unnamed operators u t ≡ false) → StorableLives tensors lives
+  unfolding lifeSoFar namedSoFar unnamed named
+  storable tensors few low all =
       record {
-        first = λ t l. omega (arith, ap (λ (x : Life). x .first .0) (h .each t (omega arith)), known-high operators u (count u) t .0);
-        last = λ t l. omega (arith, ap (λ (x : Life). x .last .0) (h .each t (omega arith)), known-high operators u (count u) t .1);
+        ended = λ t l.
+            let x = found (named u t) operators (not-false _ (all t l)) in
+            omega (arith, ap (λ (y : Life). y .end .0) (h .each t (omega arith)), before-end (named u t) operators _ (x .0) (x .1));
+        first-small = λ t l. omega (arith, ap (λ (x : Life). x .first .0) (h .each t (omega arith)), known-high operators u (count u) t .0);
+        end-small = λ t l. omega (arith, ap (λ (x : Life). x .end .0) (h .each t (omega arith)), known-high operators u (count u) t .1);
       }
 
 -- Every use of a good list names a tensor within the limit.

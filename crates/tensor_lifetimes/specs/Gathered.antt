@@ -1,5 +1,5 @@
 -- What the code gathers of each tensor: what the first j uses say of it, one use after the other.
-use Prim.Native.Nat.{ℕ, _+_, _<_, _≤_, min, max}
+use Prim.Native.Nat.{ℕ, _+_, _-_, _<_, _≤_, min, max}
 use mathlib.Core.Bool.{Bool, true, false, _&&_}
 use mathlib.Core.List.{List}
 use mathlib.Core.Path.{_≡_}
@@ -7,7 +7,7 @@ use lib.Dec.{leb, ltb, eqb}
 use lib.IntN.{ℤ, pos}
 use lib.ListN.{getD}
 use Rattle.bounded.specs.First.{firstIn, holdsBelow}
-use Rattle.bounded.specs.Last.{lastIn}
+use Rattle.bounded.specs.Last.{endIn}
 use Rattle.bounded.specs.TwoEach.{twoEach}
 use Rattle.lifetime_rule.specs.Lives.{names, lets}
 use Rattle.lifetime_rule.specs.Uses.{reads, writes, modelInput, greatestOperators, greatestTensors, count, useAt, good}
@@ -27,13 +27,13 @@ unfoldable pub lifeSoFar : ℕ → List ℤ → ℕ → ℕ → Life
 lifeSoFar operators u j t =
     record {
       first = record { 0 = firstIn (namedSoFar u j t) 0 operators };
-      last = record { 0 = lastIn (namedSoFar u j t) operators };
+      end = record { 0 = endIn (namedSoFar u j t) operators };
       readable = record { 0 = firstIn (readableSoFar u j t) 0 operators };
     }
 
 -- What is known of a tensor before any use.
 abbrev pub noLife : ℕ → Life
-noLife operators = record { first = record { 0 = operators }; last = record { 0 = 0 }; readable = record { 0 = operators } }
+noLife operators = record { first = record { 0 = operators }; end = record { 0 = 0 }; readable = record { 0 = operators } }
 
 -- The lowest operator that may read a tensor, with one use of it more.
 unfoldable pub readableWith : ℕ → Use → ℕ
@@ -46,7 +46,7 @@ lifeWith l x =
       | true ↦ l
       | false ↦ record {
         first = record { 0 = min (l .first .0) (x .operator .0) };
-        last = record { 0 = max (l .last .0) (x .operator .0) };
+        end = record { 0 = max (l .end .0) (x .operator .0 + 1) };
         readable = record { 0 = readableWith (l .readable .0) x };
       }
     ]
@@ -70,10 +70,11 @@ pub record HoldsLives (operators : ℕ) (u : List ℤ) (lives : List Life) : Typ
 pub record FewTensors (u : List ℤ) : Type 0 where
   pub each : (k : ℕ) → k < count u → useAt u k .tensor .0 < greatestTensors
 
--- The moments of so many tensors are signed words.
-pub record SmallMoments (tensors : ℕ) (lives : List Life) : Type 0 where
-  pub first : (t : ℕ) → t < tensors → lifeIn lives t .first .0 ≤ greatestOperators
-  pub last : (t : ℕ) → t < tensors → lifeIn lives t .last .0 ≤ greatestOperators
+-- The lives of so many tensors can be stored: each has a last moment, and the moments are signed words.
+pub record StorableLives (tensors : ℕ) (lives : List Life) : Type 0 where
+  pub ended : (t : ℕ) → t < tensors → 0 < lifeIn lives t .end .0
+  pub first-small : (t : ℕ) → t < tensors → lifeIn lives t .first .0 ≤ greatestOperators
+  pub end-small : (t : ℕ) → t < tensors → lifeIn lives t .end .0 ≤ greatestOperators
 
 -- By the array, no operator names the tensor.
 abbrev pub unnamedIn : ℕ → List Life → ℕ → Bool
@@ -85,4 +86,4 @@ earlyIn u lives k = eqb (useAt u k .role) reads && ltb (useAt u k .operator .0) 
 
 -- The entries of a table of lifetimes, from the array.
 abbrev pub storedWord : List Life → ℕ → ℤ
-storedWord lives = twoEach (λ t. pos (lifeIn lives t .first .0)) (λ t. pos (lifeIn lives t .last .0))
+storedWord lives = twoEach (λ t. pos (lifeIn lives t .first .0)) (λ t. pos (lifeIn lives t .end .0 - 1))

@@ -1,5 +1,5 @@
 // Gathering what the uses say of each tensor, one use after the other.
-ghost use Prim.Native.Nat.{_≤_, _<_, min, max};
+ghost use Prim.Native.Nat.{_+_, _≤_, min, max};
 ghost use mathlib.Core.Path.{_≡_};
 ghost use lib.ListN.{replicate};
 ghost use Rattle.lifetime_rule.specs.Uses.{greatestOperators, greatestTensors};
@@ -12,38 +12,41 @@ use operator_uses::USE_WORDS;
 use operator_uses::WRITES;
 use units::Moment;
 
-// The lower of two moments.
-fn earlier(a: Moment, b: Moment) -> Moment
-    ensures { λ r. ⌜ r .0 ≡ min (a .0) (b .0) ⌝ }
+// The lowest operator that names the tensor, with one more.
+fn first_with(life: Life, operator: Moment) -> Moment
+    ensures { λ r. ⌜ r .0 ≡ min (life .first .0) (operator .0) ⌝ }
 {
-    if b.0 < a.0 {
-        return b;
+    if operator.0 < life.first.0 {
+        return operator;
     }
-    a
+    life.first
 }
 
-// The higher of two moments.
-fn later(a: Moment, b: Moment) -> Moment
-    ensures { λ r. ⌜ r .0 ≡ max (a .0) (b .0) ⌝ }
+// One past the highest operator that names the tensor, with one more.
+fn end_with(life: Life, operator: Moment) -> Moment
+    requires { ⌜ operator .0 ≤ greatestOperators ⌝ }
+    ensures { λ r. ⌜ r .0 ≡ max (life .end .0) (operator .0 + 1) ⌝ }
 {
-    if a.0 < b.0 {
-        return b;
+    let after = Moment(operator.0 + 1);
+    if life.end.0 < after.0 {
+        return after;
     }
-    a
+    life.end
 }
 
 // The lowest operator that may read the tensor, with one use of it more: any may read a model input, and a write lets those after its operator.
-fn readable_with(readable: Moment, one: Use) -> Moment
+fn readable_with(life: Life, one: Use) -> Moment
     requires { ⌜ one .operator .0 ≤ greatestOperators ⌝ }
-    ensures { λ r. ⌜ r .0 ≡ readableWith (readable .0) one ⌝ }
+    ensures { λ r. ⌜ r .0 ≡ readableWith (life .readable .0) one ⌝ }
 {
     if one.role == MODEL_INPUT {
         return Moment(0);
     }
-    if one.role == WRITES {
-        return earlier(readable, Moment(one.operator.0 + 1));
+    let after = Moment(one.operator.0 + 1);
+    if (one.role == WRITES) & (after.0 < life.readable.0) {
+        return after;
     }
-    readable
+    life.readable
 }
 
 // What is known of a tensor with one use of it more. A model output says nothing; the operator of a model input is 0.
@@ -54,12 +57,12 @@ fn life_with(life: Life, one: Use) -> Life
     if MODEL_INPUT < one.role {
         return life;
     }
-    let first = earlier(life.first, one.operator);
-    let last = later(life.last, one.operator);
-    let readable = readable_with(life.readable, one);
+    let first = first_with(life, one.operator);
+    let end = end_with(life, one.operator);
+    let readable = readable_with(life, one);
     Life {
         first,
-        last,
+        end,
         readable,
     }
 }
@@ -70,7 +73,7 @@ fn no_lives(operators: u32) -> [Life; GREATEST_TENSORS]
 {
     [Life {
         first: Moment(operators),
-        last: Moment(0),
+        end: Moment(0),
         readable: Moment(operators),
     }; GREATEST_TENSORS]
 }

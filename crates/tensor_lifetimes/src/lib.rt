@@ -7,10 +7,10 @@ ghost use mathlib.Core.Path.{_≡_};
 ghost use lib.ListN.{length};
 ghost use Rattle.bounded.specs.First.{firstIn};
 ghost use Rattle.bounded.specs.Replaced.{replaced};
-ghost use Rattle.lifetime_rule.specs.Answers.{Sized, EachGood};
+ghost use Rattle.lifetime_rule.specs.Answers.{EachGood};
 ghost use Rattle.lifetime_rule.specs.Lifetimes.{livesOf, lifetimesOf, finalLifetimes};
 ghost use Rattle.lifetime_rule.specs.Uses.{count as countOf, greatestTensors, greatestUses};
-ghost use Rattle.tensor_lifetimes.specs.Gathered.{HoldsLives, SmallMoments, FewTensors, unnamedIn, earlyIn, storedWord};
+ghost use Rattle.tensor_lifetimes.specs.Gathered.{HoldsLives, StorableLives, FewTensors, unnamedIn, earlyIn, storedWord};
 use answer::Answer;
 use operator_uses::GREATEST_TENSORS;
 use operator_uses::LIFE_WORDS;
@@ -19,11 +19,11 @@ use operator_uses::USE_WORDS;
 use units::Moment;
 use units::Tensor;
 
-// What the uses say of a tensor: the lowest and the highest operator that names it, and the lowest that may read it. Where there is none, the number of
-// operators stands for a lowest one, and 0 for the highest.
+// What the uses say of a tensor: the lowest operator that names it, one past the highest that does, and the lowest that may read it. Where there is none,
+// the number of operators stands for a lowest one, and the end is 0.
 pub struct Life {
     pub first: Moment,
-    pub last: Moment,
+    pub end: Moment,
     pub readable: Moment,
 }
 
@@ -89,7 +89,7 @@ fn judge(operators: u32, tensors: u32, uses: &[i32], lives: [Life; GREATEST_TENS
 // Stores the lives of so many tensors, two entries each, in the first entries of the table.
 fn store(tensors: u32, lives: [Life; GREATEST_TENSORS], lifetimes: &mut [i32])
     requires { ⌜ (tensors ≤ greatestTensors) × (tensors * 2 ≤ length (now lifetimes)) ⌝ }
-    requires { ⌜ SmallMoments tensors lives ⌝ }
+    requires { ⌜ StorableLives tensors lives ⌝ }
     ensures { λ _. ⌜ now (lifetimes .exit) ≡ replaced (storedWord lives) (tensors * 2) (now (lifetimes .entry)) ⌝ }
 {
     let n = tensors as usize;
@@ -99,8 +99,9 @@ fn store(tensors: u32, lives: [Life; GREATEST_TENSORS], lifetimes: &mut [i32])
         let life = lives[at];
         let first_entry = at * LIFE_WORDS;
         let last_entry = first_entry + 1;
+        let last = life.end.0 - 1;
         lifetimes[first_entry] = life.first.0 as i32;
-        lifetimes[last_entry] = life.last.0 as i32;
+        lifetimes[last_entry] = last as i32;
         tensor = Tensor(at + 1);
     }
 }

@@ -1,10 +1,9 @@
 -- `operator_uses::check` meets its contract: a refusal of the first three stands, and past them the lowest bad use is told.
 use Prim.Native.Nat.{_<_, _≤_}
-use mathlib.Core.Path.{_≡_, sym, _∙_, ap}
+use mathlib.Core.Path.{sym, _∙_, ap}
 use native.Mathlib.Omega.{arith}
 use denote.Ref.{now}
 use borrow.Author.Needs.{needs}
-use borrow.Author.Tests.{ltb-true, ltb-false}
 use Rattle.request_table.specs.CheckLaws.{numberOf}
 use Rattle.lifetime_rule.specs.Answers.{Sized, sizes-passed, sizes-stand, use-refused, list-passed}
 use Rattle.lifetime_rule.specs.Uses.{count}

@@ -4,9 +4,9 @@ use denote.Ref.{now}
 use borrow.Author.Needs.{needs}
 use lib.ListN.{length}
 use Rattle.request_table.specs.CheckLaws.{numberOf}
-use Rattle.lifetime_rule.specs.Answers.{Sized, EachGood, listed, list-stands, lives-decide, done-lifetimes, refusal-keeps}
+use Rattle.lifetime_rule.specs.Answers.{Sized, EachGood, listed, list-stands, lives-decide, done-says, done-lifetimes, refusal-keeps}
 use Rattle.lifetime_rule.specs.Lifetimes.{lifetimesOf}
-use Rattle.tensor_lifetimes.proofs.Judging.{stored-is, small-moments}
+use Rattle.tensor_lifetimes.proofs.Judging.{stored-is, storable}
 use Rattle.tensor_lifetimes.proofs.from_uses.Statement.{statement}
 use Rattle.tensor_lifetimes.proofs.from_uses.Tie as tie
 
@@ -42,12 +42,13 @@ returns-2 c =
 
 store-requires : tie.Need-store-requires
 store-requires c κs =
-    let g = c .before .before .before .before in
-    let p = passed (g .before) in
-    ((p .0 .few-tensors, p .0 .roomy), small-moments (g .gather .ensures) _ (p .0 .few-tensors) (p .0 .few-operators))
+    let j = c .before .before .before in
+    let p = passed (j .before .before) in
+    let d = done-says _ _ _ _ (sym (ap numberOf (judged j)) ∙ c .before .if2 .left) in
+    ((p .0 .few-tensors, p .0 .roomy), storable (j .before .gather .ensures) _ (p .0 .few-tensors) (p .0 .few-operators) (d .all-named))
 
 same-length : tie.Need-same-length
-same-length c = search needs
+same-length c = c .before .store .kept .1 .1 .0
 
 returns-3 : tie.Need-returns-3
 returns-3 c =

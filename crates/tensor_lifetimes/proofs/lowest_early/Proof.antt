@@ -2,7 +2,6 @@
 use Prim.Native.Nat.{_-_, _<_}
 use mathlib.Core.Path.{_∙_, sym, subst}
 use native.Mathlib.Omega.{arith}
-use denote.Ref.{now}
 use Rattle.bounded.specs.First.{Scan, scan, pass, hit, out}
 use Rattle.lifetime_rule.specs.Uses.{greatestTensors}
 use Rattle.lifetime_rule.specs.declared.Use.{Use}

@@ -40,30 +40,35 @@ mul-first-entry c = omega (arith, c .before .if1 .taken)
 add-last-entry : tie.Need-add-last-entry Inv-loop μ-loop
 add-last-entry c = omega (arith, c .before .if1 .taken)
 
+sub-last : tie.Need-sub-last Inv-loop μ-loop
+sub-last c =
+    let at = c .before .before .before .before in
+    at .before .pre .1 .ended (at .loop .tensor .0) (c .before .before .if1 .taken)
+
 cast-lifetimes : tie.Need-cast-lifetimes Inv-loop μ-loop
 cast-lifetimes c =
-    let at = c .before .before .before .before in
-    sfits-of (omega (arith, at .before .pre .1 .first (at .loop .tensor .0) (c .before .before .if1 .taken)))
+    let at = c .before .before .before .before .before in
+    sfits-of (omega (arith, at .before .pre .1 .first-small (at .loop .tensor .0) (c .before .before .before .if1 .taken)))
 
 mul-lifetimes : tie.Need-mul-lifetimes Inv-loop μ-loop
-mul-lifetimes c = omega (arith, c .before .before .if1 .taken)
+mul-lifetimes c = omega (arith, c .before .before .before .if1 .taken)
 
 slice-set-from-lifetimes : tie.Need-slice-set-from-lifetimes Inv-loop μ-loop
-slice-set-from-lifetimes c = omega (arith, c .before .before .if1 .taken, long (c .before .before .before .before))
+slice-set-from-lifetimes c = omega (arith, c .before .before .before .if1 .taken, long (c .before .before .before .before .before))
 
 cast-lifetimes-2 : tie.Need-cast-lifetimes-2 Inv-loop μ-loop
 cast-lifetimes-2 c =
     let at = c .before .before .before .before .before in
-    sfits-of (omega (arith, at .before .pre .1 .last (at .loop .tensor .0) (c .before .before .before .if1 .taken)))
+    sfits-of (omega (arith, at .before .pre .1 .end-small (at .loop .tensor .0) (c .before .before .before .if1 .taken)))
 
-mul-t12 : tie.Need-mul-t12 Inv-loop μ-loop
-mul-t12 c = omega (arith, c .before .before .before .if1 .taken)
+mul-t13 : tie.Need-mul-t13 Inv-loop μ-loop
+mul-t13 c = omega (arith, c .before .before .before .if1 .taken)
 
 slice-set-from-lifetimes-2 : tie.Need-slice-set-from-lifetimes-2 Inv-loop μ-loop
 slice-set-from-lifetimes-2 c = simp length-set (omega (arith, c .before .before .before .if1 .taken, long (c .before .before .before .before .before)))
 
-add-t12 : tie.Need-add-t12 Inv-loop μ-loop
-add-t12 c = omega (arith, c .before .before .before .if1 .taken)
+add-t13 : tie.Need-add-t13 Inv-loop μ-loop
+add-t13 c = omega (arith, c .before .before .before .if1 .taken)
 
 loop-less : tie.Need-loop-less Inv-loop μ-loop
 loop-less c = omega (arith, c .before .before .before .if1 .taken)
@@ -74,8 +79,8 @@ loop-again c =
     let lives = at .before .args .t2 in
     let t = at .loop .tensor .0 in
     let l = c .before .before .before .if1 .taken in (
-      rw (toZ-pos w32 {n = lifeIn lives t .first .0} (omega (arith, at .before .pre .1 .first t l)), toZ-pos w32 {n = lifeIn lives t .last .0} (omega (arith, at .before .pre .1 .last t l)))
-          (ap (λ (xs : List ℤ). set (set xs (t * 2) (pos (lifeIn lives t .first .0))) (t * 2 + 1) (pos (lifeIn lives t .last .0))) (at .loop .inv .0) ∙ two-more _ _ t _),
+      rw (toZ-pos w32 {n = lifeIn lives t .first .0} (omega (arith, at .before .pre .1 .first-small t l)), toZ-pos w32 {n = lifeIn lives t .end .0 - 1} (omega (arith, at .before .pre .1 .end-small t l)))
+          (ap (λ (xs : List ℤ). set (set xs (t * 2) (pos (lifeIn lives t .first .0))) (t * 2 + 1) (pos (lifeIn lives t .end .0 - 1))) (at .loop .inv .0) ∙ two-more _ _ t _),
       omega arith,
     )
 
@@ -99,13 +104,14 @@ store-spec =
     array-copy-out-life
     mul-first-entry
     add-last-entry
+    sub-last
     cast-lifetimes
     mul-lifetimes
     slice-set-from-lifetimes
     cast-lifetimes-2
-    mul-t12
+    mul-t13
     slice-set-from-lifetimes-2
-    add-t12
+    add-t13
     loop-less
     loop-again
     same-length
