@@ -9,7 +9,7 @@ use borrow.Author.Tests.{ltb-false, le-ltb, lt-ltb, eqb-true, eqb-false, eq-eqb,
 use lib.Dec.{ltb, eqb}
 use lib.IntN.{ℤ}
 use lib.ListN.{length}
-use Rattle.answer.specs.Answer.{refusedAt, doneWith, badRow, tensorNeverNamed, readBeforeWritten}
+use Rattle.answer.specs.Answer.{refused, refusedAt, doneWith, notWholeRows, tooMany, tableTooShort, badRow, tensorNeverNamed, readBeforeWritten}
 use Rattle.bounded.specs.Boolean.{neither, neither-holds}
 use Rattle.bounded.specs.Causes.{NoneHolds, AllRefuse, firstCause, follows-more, passed, refused-stands}
 use Rattle.bounded.specs.First.{firstIn, holdsBelow, none-holds, none-found}
@@ -17,7 +17,7 @@ use Rattle.bounded.specs.Replaced.{replaced}
 use Rattle.request_table.specs.CheckLaws.{numberOf}
 use Rattle.lifetime_rule.specs.Lives.{unnamed, tooEarly, lifeWord}
 use Rattle.lifetime_rule.specs.Lifetimes.{outOfLimits, sizeCauses, useCauses, listCauses, lifeCauses, causes, sizesOf, listOf, livesOf, lifetimesOf, finalLifetimes}
-use Rattle.lifetime_rule.specs.Uses.{greatestOperators, greatestTensors, greatestUses, count, useAt, good, badUse}
+use Rattle.lifetime_rule.specs.Uses.{greatestOperators, greatestTensors, greatestUses, count, wholeUses, useAt, good, badUse}
 
 -- What lets a list, its numbers and a room pass the checks 1, 2 and 3.
 pub record Sized (operators tensors : ℕ) (u : List ℤ) (room : ℕ) : Type 0 where
@@ -53,24 +53,51 @@ module _ (operators tensors : ℕ) (u : List ℤ) where
       neither-holds (ltb greatestUses (count u) || ltb greatestOperators operators) (ltb greatestTensors tensors || eqb operators 0)
       (neither-holds _ _ (le-ltb _ _ a) (le-ltb _ _ b)) (neither-holds _ _ (le-ltb _ _ c) (ne-eqb operators 0 (omega arith)))
 
+-- ---- the checks 1, 2 and 3, as the code goes through them
+
+module _ (operators tensors : ℕ) (u : List ℤ) (room : ℕ) where
+  -- The length first,
+  pub length-refused : not (wholeUses u) ≡ true → refused notWholeRows ≡ sizesOf operators tensors u room
+  unfolding sizesOf
+  length-refused e = rw (e, firstCause)
+
+  -- then the limits,
+  pub limits-refused : not (wholeUses u) ≡ false → outOfLimits operators tensors u ≡ true → refused tooMany ≡ sizesOf operators tensors u room
+  unfolding sizesOf
+  limits-refused e f = rw (e, firstCause, f, firstCause)
+
+  -- then the room,
+  pub room-refused : not (wholeUses u) ≡ false → outOfLimits operators tensors u ≡ false → ltb room (tensors * 2) ≡ true
+      → refused tableTooShort ≡ sizesOf operators tensors u room
+  unfolding sizesOf
+  room-refused e f g = rw (e, firstCause, f, firstCause, g, firstCause)
+
+  -- and where none is wrong, the three pass.
+  pub sizes-pass : not (wholeUses u) ≡ false → outOfLimits operators tensors u ≡ false → ltb room (tensors * 2) ≡ false → doneWith 0 ≡ sizesOf operators tensors u room
+  unfolding sizesOf
+  sizes-pass e f g = rw (e, firstCause, f, firstCause, g, firstCause)
+
 -- ---- the checks 20 and 21, as the code goes through them
 
-module _ (operators tensors : ℕ) (u : List ℤ) where
+module _ (operators tensors : ℕ) (u : List ℤ) {t : ℕ} (lowest-tensor : t ≡ firstIn (unnamed operators u) 0 tensors) where
   -- The lowest tensor never named first,
-  pub name-refused : firstIn (unnamed operators u) 0 tensors < tensors → refusedAt tensorNeverNamed (firstIn (unnamed operators u) 0 tensors) ≡ livesOf operators tensors u
+  pub name-refused : t < tensors → refusedAt tensorNeverNamed t ≡ livesOf operators tensors u
   unfolding livesOf holdsBelow
-  name-refused l = rw (lt-ltb _ _ l, firstCause)
+  name-refused l = ap (refusedAt tensorNeverNamed) lowest-tensor ∙ rw (lt-ltb (firstIn (unnamed operators u) 0 tensors) tensors (omega (arith, lowest-tensor)), firstCause)
 
-  -- then the lowest use that reads too early,
-  pub read-refused : tensors ≤ firstIn (unnamed operators u) 0 tensors → firstIn (tooEarly u) 0 (count u) < count u
-      → refusedAt readBeforeWritten (firstIn (tooEarly u) 0 (count u)) ≡ livesOf operators tensors u
-  unfolding livesOf holdsBelow
-  read-refused h l = rw (le-ltb _ _ h, firstCause, lt-ltb _ _ l, firstCause)
+  module _ {k : ℕ} (lowest-use : k ≡ firstIn (tooEarly u) 0 (count u)) (named-all : tensors ≤ t) where
+    none-unnamed : ltb (firstIn (unnamed operators u) 0 tensors) tensors ≡ false
+    none-unnamed = le-ltb (firstIn (unnamed operators u) 0 tensors) tensors (omega (arith, lowest-tensor))
 
-  -- and where there is none, both pass.
-  pub lives-passed : tensors ≤ firstIn (unnamed operators u) 0 tensors → count u ≤ firstIn (tooEarly u) 0 (count u) → doneWith 0 ≡ livesOf operators tensors u
-  unfolding livesOf holdsBelow
-  lives-passed h l = rw (le-ltb _ _ h, firstCause, le-ltb _ _ l, firstCause)
+    -- then the lowest use that reads too early,
+    pub read-refused : k < count u → refusedAt readBeforeWritten k ≡ livesOf operators tensors u
+    unfolding livesOf holdsBelow
+    read-refused l = ap (refusedAt readBeforeWritten) lowest-use ∙ rw (none-unnamed, firstCause, lt-ltb (firstIn (tooEarly u) 0 (count u)) (count u) (omega (arith, lowest-use)), firstCause)
+
+    -- and where there is none, both pass.
+    pub lives-passed : count u ≤ k → doneWith 0 ≡ livesOf operators tensors u
+    unfolding livesOf holdsBelow
+    lives-passed l = rw (none-unnamed, firstCause, le-ltb (firstIn (tooEarly u) 0 (count u)) (count u) (omega (arith, lowest-use)), firstCause)
 
 -- ---- the order of all
 
@@ -113,16 +140,24 @@ module _ (operators tensors : ℕ) (u : List ℤ) (room : ℕ) where
   unfolding sizesOf listOf
   sizes-stand h = refused-stands numberOf (sizeCauses operators tensors u room) (useCauses operators tensors u) (doneWith 0) (doneWith 0) refl h
 
-  -- past them the lowest bad use is told,
-  pub use-refused : Sized operators tensors u room → firstIn (badUse operators tensors u) 0 (count u) < count u
-      → refusedAt badRow (firstIn (badUse operators tensors u) 0 (count u)) ≡ listOf operators tensors u room
-  unfolding listOf holdsBelow
-  use-refused z l = sym (follows-more (sizeCauses operators tensors u room) (useCauses operators tensors u) (doneWith 0) (sizes-none z) ∙ rw (lt-ltb _ _ l, firstCause))
+  module _ {k : ℕ} (lowest-use : k ≡ firstIn (badUse operators tensors u) 0 (count u)) (z : Sized operators tensors u room) where
+    uses-follow : firstCause (useCauses operators tensors u) (doneWith 0) ≡ listOf operators tensors u room
+    unfolding listOf
+    uses-follow = sym (follows-more (sizeCauses operators tensors u room) (useCauses operators tensors u) (doneWith 0) (sizes-none z))
 
-  -- and where there is none, the four pass.
-  pub list-passed : Sized operators tensors u room → count u ≤ firstIn (badUse operators tensors u) 0 (count u) → doneWith 0 ≡ listOf operators tensors u room
-  unfolding listOf holdsBelow
-  list-passed z l = sym (follows-more (sizeCauses operators tensors u room) (useCauses operators tensors u) (doneWith 0) (sizes-none z) ∙ rw (le-ltb _ _ l, firstCause))
+    -- past them the lowest bad use is told,
+    pub use-refused : k < count u → refusedAt badRow k ≡ listOf operators tensors u room
+    unfolding holdsBelow
+    use-refused l =
+        let told : refusedAt badRow (firstIn (badUse operators tensors u) 0 (count u)) ≡ firstCause (useCauses operators tensors u) (doneWith 0) = rw (lt-ltb (firstIn (badUse operators tensors u) 0 (count u)) (count u) (omega (arith, lowest-use)), firstCause) in
+        ap (refusedAt badRow) lowest-use ∙ told ∙ uses-follow
+
+    -- and where there is none, the four pass.
+    pub list-passed : count u ≤ k → doneWith 0 ≡ listOf operators tensors u room
+    unfolding holdsBelow
+    list-passed l =
+        let told : doneWith 0 ≡ firstCause (useCauses operators tensors u) (doneWith 0) = rw (le-ltb (firstIn (badUse operators tensors u) 0 (count u)) (count u) (omega (arith, lowest-use)), firstCause) in
+        told ∙ uses-follow
 
   -- They pass only so.
   pub listed : listOf operators tensors u room .number ≡ 0 → Sized operators tensors u room × EachGood operators tensors u

@@ -97,20 +97,20 @@ module _ (operators tensors : ℕ) (u : List ℤ) (room : ℕ) where
       unfolding holdsBelow
       lives-outcome true e c f =
           never-named _ z good-uses (lowest-of (unnamed operators u) tensors (λ t l. unnamed-says t) (λ t l. unnamed-of t) e)
-          (sym (name-refused operators tensors u (ltb-true _ _ e) ∙ lives-decide operators tensors u room z g))
+          (sym (name-refused operators tensors u refl (ltb-true _ _ e) ∙ lives-decide operators tensors u room z g))
       lives-outcome false e true f =
           too-early _ z good-uses (λ t l n. contrary (unnamed-of t n) (none-holds (unnamed operators u) tensors e t l))
           (lowest-of (tooEarly u) (count u) (early-says u natural-words) (early-of u natural-words) f)
-          (sym (read-refused operators tensors u (ltb-false _ _ e) (ltb-true _ _ f) ∙ lives-decide operators tensors u room z g))
+          (sym (read-refused operators tensors u refl refl (ltb-false _ _ e) (ltb-true _ _ f) ∙ lives-decide operators tensors u room z g))
       lives-outcome false e false f =
           done z good-uses (λ t l n. contrary (unnamed-of t n) (none-holds (unnamed operators u) tensors e t l))
           (λ k l x. contrary (early-of u natural-words k l x) (none-holds (tooEarly u) (count u) f k l))
-          (sym (lives-passed operators tensors u (ltb-false _ _ e) (ltb-false _ _ f) ∙ lives-decide operators tensors u room z g))
+          (sym (lives-passed operators tensors u refl refl (ltb-false _ _ e) (ltb-false _ _ f) ∙ lives-decide operators tensors u room z g))
 
     uses-outcome : (b : Bool) → holdsBelow (badUse operators tensors u) (count u) ≡ b → Outcome
     unfolding holdsBelow
     uses-outcome true e =
-        let told = use-refused operators tensors u room z (ltb-true _ _ e) in
+        let told = use-refused operators tensors u room refl z (ltb-true _ _ e) in
         bad-use _ z (lowest-of (badUse operators tensors u) (count u) (λ k l. bad-says k) (λ k l. bad-of k) e)
         (sym (told ∙ list-stands operators tensors u room (λ n. omega (arith, ap numberOf told, n))))
     uses-outcome false e =

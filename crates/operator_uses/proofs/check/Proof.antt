@@ -1,5 +1,5 @@
 -- `operator_uses::check` meets its contract: a refusal of the first three stands, and past them the lowest bad use is told.
-use Prim.Native.Nat.{_<_, _≤_}
+use Prim.Native.Nat.{_<_}
 use mathlib.Core.Path.{sym, _∙_, ap}
 use native.Mathlib.Omega.{arith}
 use denote.Ref.{now}
@@ -34,20 +34,16 @@ refused-at-requires c κs = search needs
 
 returns-2 : tie.Need-returns-2
 returns-2 c =
-    let a = c .before .before .before .before .before .before .args in
-    let e = c .before .before .lowest-bad-use .ensures in
-    let l : c .before .before .lowest-bad-use .result < count (now (a .uses)) = c .before .if2 .taken in
-    c .refused-at .ensures ∙ rw e (use-refused _ _ _ _ (sized (c .before .before .before)) (rw e at l))
+    let bad = c .before .before in
+    c .refused-at .ensures ∙ use-refused _ _ _ _ (bad .lowest-bad-use .ensures) (sized (bad .before)) (c .before .if2 .taken)
 
 done-requires : tie.Need-done-requires
 done-requires c κs = search needs
 
 returns-3 : tie.Need-returns-3
 returns-3 c =
-    let a = c .before .before .before .before .before .before .args in
-    let e = c .before .before .lowest-bad-use .ensures in
-    let l : count (now (a .uses)) ≤ c .before .before .lowest-bad-use .result = c .before .if2 .left in
-    c .done .ensures ∙ list-passed _ _ _ _ (sized (c .before .before .before)) (rw e at l)
+    let bad = c .before .before in
+    c .done .ensures ∙ list-passed _ _ _ _ (bad .lowest-bad-use .ensures) (sized (bad .before)) (c .before .if2 .left)
 
 pub check-spec : {M : Type 1} → statement M
 check-spec =

@@ -1,6 +1,7 @@
 -- `operator_uses::check_sizes` meets its contract: each way out is the first cause that holds.
-use Rattle.bounded.specs.Causes.{firstCause}
-use Rattle.lifetime_rule.specs.Lifetimes.{outOfLimits, sizesOf}
+use mathlib.Core.Path.{_∙_}
+use Rattle.lifetime_rule.specs.Answers.{length-refused, limits-refused, room-refused, sizes-pass}
+use Rattle.lifetime_rule.specs.Lifetimes.{outOfLimits}
 use borrow.Author.Needs.{needs}
 use Rattle.operator_uses.proofs.check_sizes.Statement.{statement}
 use Rattle.operator_uses.proofs.check_sizes.Tie as tie
@@ -12,29 +13,28 @@ refused-requires : tie.Need-refused-requires
 refused-requires c κs = search needs
 
 returns : tie.Need-returns
-unfolding sizesOf outOfLimits
-returns c = rw (c .before .if1 .taken, firstCause) (c .refused .ensures)
+returns c = c .refused .ensures ∙ length-refused _ _ _ _ (c .before .if1 .taken)
 
 refused-requires-2 : tie.Need-refused-requires-2
 refused-requires-2 c κs = search needs
 
 returns-2 : tie.Need-returns-2
-unfolding sizesOf outOfLimits
-returns-2 c = let p = c .before in rw (p .before .if1 .left, firstCause, p .if2 .taken, firstCause) (c .refused2 .ensures)
+unfolding outOfLimits
+returns-2 c = let p = c .before in c .refused2 .ensures ∙ limits-refused _ _ _ _ (p .before .if1 .left) (p .if2 .taken)
 
 refused-requires-3 : tie.Need-refused-requires-3
 refused-requires-3 c κs = search needs
 
 returns-3 : tie.Need-returns-3
-unfolding sizesOf outOfLimits
-returns-3 c = let p = c .before in rw (p .before .before .if1 .left, firstCause, p .before .if2 .left, firstCause, p .if3 .taken, firstCause) (c .refused3 .ensures)
+unfolding outOfLimits
+returns-3 c = let p = c .before in c .refused3 .ensures ∙ room-refused _ _ _ _ (p .before .before .if1 .left) (p .before .if2 .left) (p .if3 .taken)
 
 done-requires : tie.Need-done-requires
 done-requires c κs = search needs
 
 returns-4 : tie.Need-returns-4
-unfolding sizesOf outOfLimits
-returns-4 c = let p = c .before in rw (p .before .before .if1 .left, firstCause, p .before .if2 .left, firstCause, p .if3 .left, firstCause) (c .done .ensures)
+unfolding outOfLimits
+returns-4 c = let p = c .before in c .done .ensures ∙ sizes-pass _ _ _ _ (p .before .before .if1 .left) (p .before .if2 .left) (p .if3 .left)
 
 pub check-sizes-spec : {M : Type 1} → statement M
 check-sizes-spec =

@@ -1,5 +1,5 @@
 -- `tensor_lifetimes::judge` meets its contract: the lowest tensor never named, then the lowest use that reads too early.
-use Prim.Native.Nat.{_<_, _≤_, zero-le}
+use Prim.Native.Nat.{zero-le}
 use mathlib.Core.Path.{_≡_, _∙_}
 use native.Mathlib.Omega.{arith}
 use denote.Ref.{now}
@@ -41,35 +41,25 @@ refused-at-requires : tie.Need-refused-at-requires
 refused-at-requires c κs = search needs
 
 returns : tie.Need-returns
-returns c =
-    let found = c .before .before .before .before in
-    let e = tensor-found found in
-    let l : found .lowest-unnamed .result .0 < found .before .args .tensors = ltb-true _ _ (c .before .if1 .taken) in
-    c .refused-at .ensures ∙ rw e (name-refused _ _ _ (rw e at l))
+returns c = c .refused-at .ensures ∙ name-refused _ _ _ (tensor-found (c .before .before .before .before)) (ltb-true _ _ (c .before .if1 .taken))
 
 refused-at-requires-2 : tie.Need-refused-at-requires-2
 refused-at-requires-2 c κs = search needs
 
 returns-2 : tie.Need-returns-2
 returns-2 c =
-    let found = c .before .before .before .before .before in
-    let e = tensor-found found in
-    let f = use-found (c .before .before .before .before) in
-    let h : found .before .args .tensors ≤ found .lowest-unnamed .result .0 = ltb-false _ _ (c .before .before .if1 .left) in
-    let l : c .before .before .before .before .lowest-early .result < count (now (found .before .args .uses)) = ltb-true _ _ (c .before .if2 .taken) in
-    c .refused-at2 .ensures ∙ rw f (read-refused _ _ _ (rw e at h) (rw f at l))
+    let early = c .before .before .before .before in
+    c .refused-at2 .ensures
+    ∙ read-refused _ _ _ (tensor-found (early .before)) (use-found early) (ltb-false _ _ (c .before .before .if1 .left)) (ltb-true _ _ (c .before .if2 .taken))
 
 done-requires : tie.Need-done-requires
 done-requires c κs = search needs
 
 returns-3 : tie.Need-returns-3
 returns-3 c =
-    let found = c .before .before .before .before .before in
-    let e = tensor-found found in
-    let f = use-found (c .before .before .before .before) in
-    let h : found .before .args .tensors ≤ found .lowest-unnamed .result .0 = ltb-false _ _ (c .before .before .if1 .left) in
-    let l : count (now (found .before .args .uses)) ≤ c .before .before .before .before .lowest-early .result = ltb-false _ _ (c .before .if2 .left) in
-    c .done .ensures ∙ lives-passed _ _ _ (rw e at h) (rw f at l)
+    let early = c .before .before .before .before in
+    c .done .ensures
+    ∙ lives-passed _ _ _ (tensor-found (early .before)) (use-found early) (ltb-false _ _ (c .before .before .if1 .left)) (ltb-false _ _ (c .before .if2 .left))
 
 pub judge-spec : {M : Type 1} → statement M
 judge-spec =

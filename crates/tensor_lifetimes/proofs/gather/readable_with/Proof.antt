@@ -1,5 +1,4 @@
 -- `tensor_lifetimes::gather::readable_with` meets its contract.
-use native.Mathlib.Omega.{arith}
 use borrow.Author.Needs.{needs}
 use Rattle.tensor_lifetimes.proofs.Gathering.{readable-input, readable-write, readable-stays}
 use Rattle.tensor_lifetimes.proofs.gather.readable_with.Statement.{statement}
