@@ -1,20 +1,15 @@
 -- Law: what the tests of room say, in plain terms and both ways. Every other law and the code's proofs go by these.
 use Prim.Native.Nat.{ℕ, _+_, _<_, _≤_}
-use mathlib.Core.Bool.{Bool, true, false}
+use mathlib.Core.Bool.{true, false}
 use mathlib.Core.Logic.{_⊎_, inl, inr, ⊎-map}
-use mathlib.Core.Path.{_≡_, refl}
+use mathlib.Core.Path.{_≡_}
 use native.Mathlib.Omega.{arith}
 use borrow.Author.Tests.{ltb-true, ltb-false, lt-ltb, le-ltb}
 use lib.Dec.{ltb}
 use Rattle.alignment.specs.Alignments.{loss}
-use Rattle.bounded.specs.Boolean.{either, neither, neither-holds}
+use Rattle.bounded.specs.Boolean.{either, neither, neither-holds, refuted}
 use Rattle.arena_sections.specs.Sections.{greatestLength, usableLength, notUsable, persistentStart, persistentFull, tempStart, tempFull}
 use Rattle.arena_sections.specs.declared.Sections.{Sections}
-
--- A test that is refuted by what its failing says.
-refuted : (x : Bool) → (x ≡ false → ⊥) → x ≡ true
-refuted true f = refl
-refuted false f = absurd (f refl)
 
 module _ (s : Sections) (size a : ℕ) where
   -- "15 exactly if size > tail or start < temp": where it is given,

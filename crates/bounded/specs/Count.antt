@@ -8,7 +8,7 @@ use mathlib.Core.Path.{_≡_, refl, ap, subst}
 use native.Mathlib.Nat.{eq-or-lt-of-le, le-of-suc-le-suc}
 use native.Mathlib.Numerals.{add-one}
 use native.Mathlib.Omega.{arith}
-use Rattle.bounded.specs.Boolean.{contrary}
+use Rattle.bounded.specs.Boolean.{contrary, refuted}
 use Rattle.bounded.specs.First.{holdsBelow, none-holds}
 
 -- One where the test holds, else nothing.
@@ -124,8 +124,4 @@ count-one p (suc n) f = go (p n) refl (count-one p n (λ i j h l. f i j (omega a
 
 -- Something counted is found.
 pub count-found : (p : ℕ → Bool) (n : ℕ) → 0 < count p n → holdsBelow p n ≡ true
-count-found p n h = go (holdsBelow p n) refl
-  where
-    go : (b : Bool) → holdsBelow p n ≡ b → b ≡ true
-    go true e = refl
-    go false e = absurd (let z = count-zero p n (none-holds p n e) in omega arith)
+count-found p n h = refuted _ (λ e. let z = count-zero p n (none-holds p n e) in omega arith)

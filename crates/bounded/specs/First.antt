@@ -140,11 +140,7 @@ module _ (p : ℕ → Bool) (n : ℕ) where
 
   -- An index that passes: something is found.
   pub some-found : (k : ℕ) → k < n → p k ≡ true → holdsBelow p n ≡ true
-  some-found k l e = go (holdsBelow p n) refl
-    where
-      go : (b : Bool) → holdsBelow p n ≡ b → b ≡ true
-      go true q = refl
-      go false q = contrary e (none-holds q k l)
+  some-found k l e = refuted _ (λ q. contrary e (none-holds q k l))
 
 -- One index more.
 pub holds-more : (p : ℕ → Bool) (n : ℕ) → holdsBelow p (n + 1) ≡ holdsBelow p n || p n

@@ -13,7 +13,7 @@ use lib.IntN.{ℤ, pos, negsuc}
 use lib.ListN.{length}
 use lib.Signed.{ltZ}
 use Rattle.answer.specs.Answer.{doneWith}
-use Rattle.bounded.specs.Boolean.{contrary, lt-or-le}
+use Rattle.bounded.specs.Boolean.{contrary, lt-or-le, refuted}
 use Rattle.bounded.specs.Causes.{NoneHolds, AllRefuse, follows, passed}
 use Rattle.bounded.specs.First.{none-holds, none-found}
 use Rattle.bounded.specs.Pair.{no-pair, none-paired}
@@ -61,11 +61,7 @@ fixed-says t r e q = contrary e (ap (λ (z : ℤ). not (isMinusOne z)) q)
 -- A row whose offset word is not −1 is fixed.
 pub fixed-of : (t : List ℤ) (r : ℕ) → (word t r 3 ≡ negsuc 0 → ⊥) → fixed t r ≡ true
 unfolding request
-fixed-of t r f = go (isMinusOne (word t r 3)) refl
-  where
-    go : (b : Bool) → isMinusOne (word t r 3) ≡ b → not b ≡ true
-    go true e = absurd (f (minus-one-of (word t r 3) e))
-    go false e = refl
+fixed-of t r f = refuted _ (λ e. f (minus-one-of (word t r 3) (not-false _ e)))
 
 -- The offset of a fixed row is what its word reads as.
 pub own-offset : (t : List ℤ) (r : ℕ) → fixedOffset t r ≡ natural (word t r 3)

@@ -10,7 +10,7 @@ use lib.IntN.{ℤ, negsuc}
 use lib.ListN.{length}
 use Rattle.answer.specs.declared.Answer.{Answer}
 use Rattle.answer.specs.Answer.{doneWith, refusedAt, refusedPair, refusedNeed, fixedRowMoved, badOffset, needExceedsSpace, rowsCollide}
-use Rattle.bounded.specs.Boolean.{contrary, lt-or-le}
+use Rattle.bounded.specs.Boolean.{contrary, lt-or-le, refuted}
 use Rattle.bounded.specs.First.{holdsBelow, none-holds}
 use Rattle.bounded.specs.Lowest.{Lowest, LeastPair, lowest-of, least-of}
 use Rattle.bounded.specs.Pair.{pairBelow, no-pair}
@@ -64,21 +64,13 @@ module _ (g : ℕ) (t : List ℤ) (space : ℕ) (o : List ℤ) where
       }
 
   moved-of : (r : ℕ) → (fixed t r ≡ true → fixedOffset t r ≤ greatestSpace) → Moved t o r → moved t o r ≡ true
-  moved-of r l m = go (moved t o r) refl
-    where
-      go : (b : Bool) → moved t o r ≡ b → b ≡ true
-      go true e = refl
-      go false e = absurd (m .elsewhere (unmoved-says g t o r e (l (fixed-of t r (m .is-fixed))) (m .is-fixed)))
+  moved-of r l m = refuted _ (λ e. m .elsewhere (unmoved-says g t o r e (l (fixed-of t r (m .is-fixed))) (m .is-fixed)))
 
   grid-says : (r : ℕ) → offGrid g o r ≡ true → Aligned g (wordAt o r) → ⊥
   grid-says r e a = contrary e (on-grid-of g o r a)
 
   grid-of : (r : ℕ) → (Aligned g (wordAt o r) → ⊥) → offGrid g o r ≡ true
-  grid-of r f = go (offGrid g o r) refl
-    where
-      go : (b : Bool) → offGrid g o r ≡ b → b ≡ true
-      go true e = refl
-      go false e = absurd (f (on-grid-says g o r e))
+  grid-of r f = refuted _ (λ e. f (on-grid-says g o r e))
 
   -- ---- the answer
 

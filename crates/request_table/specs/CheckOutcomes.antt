@@ -9,7 +9,7 @@ use borrow.Author.Tests.{lt-ltb, le-ltb, ne-eqb, eq-eqb, not-false}
 use lib.IntN.{ℤ}
 use lib.ListN.{length}
 use Rattle.answer.specs.Answer.{refused, refusedAt, doneWith, notWholeRows, tooMany, tableTooShort, spaceTooLarge, badRow as badRowNumber}
-use Rattle.bounded.specs.Boolean.{contrary, lt-or-le, same-or-not}
+use Rattle.bounded.specs.Boolean.{contrary, lt-or-le, refuted, same-or-not}
 use Rattle.bounded.specs.Causes.{firstCause}
 use Rattle.bounded.specs.First.{holdsBelow, none-holds}
 use Rattle.bounded.specs.Lowest.{Lowest, lowest-of}
@@ -17,7 +17,7 @@ use Rattle.request_table.specs.CheckLaws.{Shaped, Checked, content-decid
 use Rattle.request_table.specs.Checks.{contentOf, checkOf}
 use Rattle.request_table.specs.GoodRows.{GoodRow, good-says, good-of}
 use Rattle.request_table.specs.Limits.{greatestRows, greatestSpace}
-use Rattle.request_table.specs.Table.{rows, request, good, badRow}
+use Rattle.request_table.specs.Table.{rows, badRow}
 
 module _ (g : ℕ) (t : List ℤ) (space room : ℕ) where
   -- What the answer may be.
@@ -34,11 +34,7 @@ module _ (g : ℕ) (t : List ℤ) (space room : ℕ) where
   bad-says r e x = contrary e (ap not (good-of g t r x))
 
   bad-of : (r : ℕ) → (GoodRow g t r → ⊥) → badRow g t r ≡ true
-  bad-of r f = go (good g (request t r)) refl
-    where
-      go : (b : Bool) → good g (request t r) ≡ b → not b ≡ true
-      go true e = absurd (f (good-says g t r e))
-      go false e = refl
+  bad-of r f = refuted _ (λ e. f (good-says g t r (not-false _ e)))
 
   -- Past the lengths.
   content-outcome : Shaped t room → (greatestSpace < space) ⊎ (space ≤ greatestSpace) → (b : Bool) → holdsBelow (badRow g t) (rows t) ≡ b → CheckOutcome
