@@ -42,6 +42,10 @@ last-is p (suc n) k l e = go (p n) refl (λ m. last-is p n k m e)
           after = λ j m o. ⊎-elim (λ z. subst (λ (i : ℕ). p i ≡ false) (sym z) q) (λ z. x .after j m z) (eq-or-lt-of-le (le-of-suc-le-suc o));
         }
 
+-- No index that passes is above the last.
+pub last-highest : {p : ℕ → Bool} {n r : ℕ} → IsLast p n r → (k : ℕ) → k < n → p k ≡ true → k ≤ r
+last-highest x k l e = ⊎-elim (λ m. contrary e (x .after k m l)) (λ m. m) (lt-or-le _ k)
+
 -- ---- the end
 
 -- The last index is the one before the end.
@@ -84,10 +88,7 @@ end-none p (suc n) f = rw (f n (omega arith), endIn) (end-none p n (λ k l. f k 
 pub end-after : (p : ℕ → Bool) (n r : ℕ) → IsLast p n r → endIn p n ≡ r + 1
 end-after p n r x =
     let l = last-is p n r (x .within) (x .passes) in
-    omega (arith, last-before-end p n, before-end p n r (x .within) (x .passes), not-after (lastIn p n) r l x)
-  where
-    not-after : (a b : ℕ) → IsLast p n a → IsLast p n b → a ≤ b
-    not-after a b f g = ⊎-elim (λ l. contrary (f .passes) (g .after a l (f .within))) (λ l. l) (lt-or-le b a)
+    omega (arith, last-before-end p n, before-end p n r (x .within) (x .passes), last-highest x (lastIn p n) (l .within) (l .passes))
 
 -- Two tests that agree below the bound have the same end.
 pub end-same : (p q : ℕ → Bool) (n : ℕ) → ((k : ℕ) → k < n → p k ≡ q k) → endIn p n ≡ endIn q n

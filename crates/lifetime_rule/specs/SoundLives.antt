@@ -2,9 +2,8 @@
 -- no read stands without role 2 or a write by an earlier operator. So a life is neither too short nor too long, and its ends are good moments for a row of
 -- the request table.
 use Prim.Native.Nat.{ℕ, _+_, _*_, _<_, _≤_}
-use mathlib.Core.Bool.{true, false}
+use mathlib.Core.Bool.{false}
 use mathlib.Core.List.{List}
-use mathlib.Core.Logic.{⊎-elim}
 use mathlib.Core.Path.{_≡_, sym, _∙_, ap, subst}
 use native.Mathlib.Omega.{arith}
 use borrow.Author.Tests.{not-false}
@@ -12,9 +11,8 @@ use lib.IntN.{ℤ, pos}
 use lib.ListN.{length}
 use lib.Signed.{_≤ℤ_}
 use Rattle.answer.specs.Answer.{doneWith}
-use Rattle.bounded.specs.Boolean.{contrary, lt-or-le}
-use Rattle.bounded.specs.First.{firstIn, first-is, found}
-use Rattle.bounded.specs.Last.{lastIn, IsLast, last-is}
+use Rattle.bounded.specs.First.{first-lowest, found}
+use Rattle.bounded.specs.Last.{last-is, last-highest}
 use Rattle.bounded.specs.Replaced.{replaced-length, replaced-at, replaced-past}
 use Rattle.bounded.specs.TwoEach.{two-first, two-second}
 use Rattle.words.specs.Words.{wordAt, natural}
@@ -59,20 +57,14 @@ module _ (operators : ℕ) (u : List ℤ) (each : (k : ℕ) → k < count u → 
       let x = found (named u t) operators (not-false _ e) in
       let l = last-is (named u t) operators _ (x .0) (x .1) in
       record {
-        rising = not-after l _ (x .0) (x .1);
+        rising = last-highest l _ (x .0) (x .1);
         below = l .within;
         holds = λ m k w n.
             let passes = named-of u each t m (record { which = k; within = w; so = n }) in
-            (not-before m passes, not-after l m (low t m k w n) passes);
+            (first-lowest (named u t) operators m passes, last-highest l m (low t m k w n) passes);
         first-named = named-says u each t _ (x .1);
         last-named = named-says u each t _ (l .passes);
       }
-    where
-      not-before : (m : ℕ) → named u t m ≡ true → firstIn (named u t) 0 operators ≤ m
-      not-before m p = ⊎-elim (λ q. contrary p (first-is (named u t) 0 operators (omega arith) .before m (omega arith) q)) (λ q. q) (lt-or-le m (firstIn (named u t) 0 operators))
-
-      not-after : IsLast (named u t) operators (lastIn (named u t) operators) → (m : ℕ) → m < operators → named u t m ≡ true → m ≤ lastIn (named u t) operators
-      not-after l m b p = ⊎-elim (λ q. contrary p (l .after m q b)) (λ q. q) (lt-or-le (lastIn (named u t) operators) m)
 
 -- ---- a done list
 

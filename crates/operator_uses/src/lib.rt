@@ -52,13 +52,13 @@ pub fn use_at(uses: &[i32], k: usize) -> Use
 }
 
 // A good use: role, tensor and operator are in their ranges, and the operator of a role outside the model's operators is 0.
-fn is_good(operators: u32, tensors: u32, one: Use) -> bool
-    ensures { λ r. ⌜ r ≡ good operators tensors one ⌝ }
+fn is_good(operators: u32, tensors: u32, usage: Use) -> bool
+    ensures { λ r. ⌜ r ≡ good operators tensors usage ⌝ }
 {
-    let role = one.role <= MODEL_OUTPUT;
-    let tensor = one.tensor.0 < tensors as usize;
-    let operator = one.operator.0 < operators;
-    let zero_outside = (one.role <= WRITES) | (one.operator.0 == 0);
+    let role = usage.role <= MODEL_OUTPUT;
+    let tensor = usage.tensor.0 < tensors as usize;
+    let operator = usage.operator.0 < operators;
+    let zero_outside = (usage.role <= WRITES) | (usage.operator.0 == 0);
     role & (tensor & (operator & zero_outside))
 }
 

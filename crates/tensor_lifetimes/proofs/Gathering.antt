@@ -200,39 +200,39 @@ module _ (l : Life) (x : Use) where
 -- ---- a use of the tensor itself
 
 module _ (operators tensors : ℕ) (u : List ℤ) (j : ℕ) where
-  abbrev one : Use
-  one = useAt u j
+  abbrev usage : Use
+  usage = useAt u j
 
   abbrev known : Life
-  known = lifeSoFar operators u j (one .tensor .0)
+  known = lifeSoFar operators u j (usage .tensor .0)
 
-  by-role : Tests operators tensors one → Role (one .role) → lifeWith known one ≡ lifeSoFar operators u (j + 1) (one .tensor .0)
+  by-role : Tests operators tensors usage → Role (usage .role) → lifeWith known usage ≡ lifeSoFar operators u (j + 1) (usage .tensor .0)
   by-role g (reading q) =
-      let all : min (known .readable .0) operators ≡ known .readable .0 = omega (arith, known-high operators u j (one .tensor .0) .2) in
-      with-read known one q
+      let all : min (known .readable .0) operators ≡ known .readable .0 = omega (arith, known-high operators u j (usage .tensor .0) .2) in
+      with-read known usage q
       ∙ sym
-      (adds operators u j (one .tensor .0) (first-at _ operators _ (g .operator) (λ m. acts-names one m (inl q))) (end-at _ operators _ (g .operator) (λ m. acts-names one m (inl q)))
-      (first-none _ operators (λ m l. others-let one m (inl q)))
-      ∙ ap (with-readable known one) all)
+      (adds operators u j (usage .tensor .0) (first-at _ operators _ (g .operator) (λ m. acts-names usage m (inl q))) (end-at _ operators _ (g .operator) (λ m. acts-names usage m (inl q)))
+      (first-none _ operators (λ m l. others-let usage m (inl q)))
+      ∙ ap (with-readable known usage) all)
   by-role g (writing q) =
-      with-write known one q
+      with-write known usage q
       ∙ sym
-      (adds operators u j (one .tensor .0) (first-at _ operators _ (g .operator) (λ m. acts-names one m (inr q))) (end-at _ operators _ (g .operator) (λ m. acts-names one m (inr q)))
-      (first-after _ operators _ (g .operator) (λ m. write-lets one m q)))
+      (adds operators u j (usage .tensor .0) (first-at _ operators _ (g .operator) (λ m. acts-names usage m (inr q))) (end-at _ operators _ (g .operator) (λ m. acts-names usage m (inr q)))
+      (first-after _ operators _ (g .operator) (λ m. write-lets usage m q)))
   by-role g (input q) =
-      let z : one .operator .0 ≡ 0 = ⊎-elim (λ l. absurd (omega (arith, q))) (λ e. e) (g .zero-outside) in
+      let z : usage .operator .0 ≡ 0 = ⊎-elim (λ l. absurd (omega (arith, q))) (λ e. e) (g .zero-outside) in
       let all : min (known .readable .0) 0 ≡ 0 = omega arith in
-      with-input known one q
+      with-input known usage q
       ∙ sym
-      (adds operators u j (one .tensor .0) (first-at _ operators _ (g .operator) (λ m. input-names one m q z)) (end-at _ operators _ (g .operator) (λ m. input-names one m q z))
-      (first-all _ operators (λ m. input-lets one m q))
-      ∙ ap (with-readable known one) all)
+      (adds operators u j (usage .tensor .0) (first-at _ operators _ (g .operator) (λ m. input-names usage m q z)) (end-at _ operators _ (g .operator) (λ m. input-names usage m q z))
+      (first-all _ operators (λ m. input-lets usage m q))
+      ∙ ap (with-readable known usage) all)
   by-role g (output q) =
-      with-output known one q ∙ nothing-added operators u j (one .tensor .0) (λ m. output-names one m q) (λ m. others-let one m (inr q))
+      with-output known usage q ∙ nothing-added operators u j (usage .tensor .0) (λ m. output-names usage m q) (λ m. others-let usage m (inr q))
 
   -- A good use of the tensor adds what the code makes of it.
-  pub own-tensor : good operators tensors one ≡ true → lifeWith known one ≡ lifeSoFar operators u (j + 1) (one .tensor .0)
-  own-tensor e = let g = tests operators tensors one e in by-role g (role-of (one .role) (g .role))
+  pub own-tensor : good operators tensors usage ≡ true → lifeWith known usage ≡ lifeSoFar operators u (j + 1) (usage .tensor .0)
+  own-tensor e = let g = tests operators tensors usage e in by-role g (role-of (usage .role) (g .role))
 
 -- ---- the loop
 

@@ -35,31 +35,31 @@ fn end_with(life: Life, operator: Moment) -> Moment
 }
 
 // The lowest operator that may read the tensor, with one use of it more: any may read a model input, and a write lets those after its operator.
-fn readable_with(life: Life, one: Use) -> Moment
-    requires { ⌜ one .operator .0 ≤ greatestOperators ⌝ }
-    ensures { λ r. ⌜ r .0 ≡ readableWith (life .readable .0) one ⌝ }
+fn readable_with(life: Life, usage: Use) -> Moment
+    requires { ⌜ usage .operator .0 ≤ greatestOperators ⌝ }
+    ensures { λ r. ⌜ r .0 ≡ readableWith (life .readable .0) usage ⌝ }
 {
-    if one.role == MODEL_INPUT {
+    if usage.role == MODEL_INPUT {
         return Moment(0);
     }
-    let after = Moment(one.operator.0 + 1);
-    if (one.role == WRITES) & (after.0 < life.readable.0) {
+    let after = Moment(usage.operator.0 + 1);
+    if (usage.role == WRITES) & (after.0 < life.readable.0) {
         return after;
     }
     life.readable
 }
 
 // What is known of a tensor with one use of it more. A model output says nothing; the operator of a model input is 0.
-fn life_with(life: Life, one: Use) -> Life
-    requires { ⌜ one .operator .0 ≤ greatestOperators ⌝ }
-    ensures { λ r. ⌜ r ≡ lifeWith life one ⌝ }
+fn life_with(life: Life, usage: Use) -> Life
+    requires { ⌜ usage .operator .0 ≤ greatestOperators ⌝ }
+    ensures { λ r. ⌜ r ≡ lifeWith life usage ⌝ }
 {
-    if MODEL_INPUT < one.role {
+    if MODEL_INPUT < usage.role {
         return life;
     }
-    let first = first_with(life, one.operator);
-    let end = end_with(life, one.operator);
-    let readable = readable_with(life, one);
+    let first = first_with(life, usage.operator);
+    let end = end_with(life, usage.operator);
+    let readable = readable_with(life, usage);
     Life {
         first,
         end,
@@ -87,10 +87,10 @@ pub(crate) fn gather(operators: u32, uses: &[i32]) -> [Life; GREATEST_TENSORS]
     let mut lives = no_lives(operators);
     let mut k = 0;
     while k < n {
-        let one = operator_uses::use_at(uses, k);
-        let at = one.tensor.0;
+        let usage = operator_uses::use_at(uses, k);
+        let at = usage.tensor.0;
         let life = lives[at];
-        lives[at] = life_with(life, one);
+        lives[at] = life_with(life, usage);
         k += 1;
     }
     lives

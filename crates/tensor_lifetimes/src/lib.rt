@@ -53,10 +53,10 @@ fn lowest_early(uses: &[i32], lives: [Life; GREATEST_TENSORS]) -> usize
     let n = uses.len() / USE_WORDS;
     let mut k = 0;
     while k < n {
-        let one = operator_uses::use_at(uses, k);
-        let at = one.tensor.0;
+        let usage = operator_uses::use_at(uses, k);
+        let at = usage.tensor.0;
         let life = lives[at];
-        if (one.role == READS) & (one.operator.0 < life.readable.0) {
+        if (usage.role == READS) & (usage.operator.0 < life.readable.0) {
             return k;
         }
         k += 1;

@@ -21,7 +21,7 @@ returns-2 c =
     let end = c .before in
     let first = end .before in
     let a = first .before .before .before .args in
-    life-counts (a .life) (a .one) (first .before .if1 .left) (first .first-with .ensures) (end .end-with .ensures) (c .readable-with .ensures)
+    life-counts (a .life) (a .usage) (first .before .if1 .left) (first .first-with .ensures) (end .end-with .ensures) (c .readable-with .ensures)
 
 pub life-with-spec : {M : Type 1} → statement M
 life-with-spec = tie.close (tie.spec returns first-with-requires end-with-requires readable-with-requires returns-2)
