@@ -1,8 +1,9 @@
 // A single number, spelled by digits and, where it may be negative, a sign before them.
+use crate::text;
 
 // What stands for a number that cannot be read: it is above every range, so that a test of the range refuses it too. Of the numbers of 64 bits it is the
 // one that no vector can give.
-pub const TOO_LARGE: u64 = 18446744073709551615;
+pub const TOO_LARGE: usize = 18446744073709551615;
 
 // A signed number, and whether it was one.
 pub struct Word {
@@ -11,36 +12,41 @@ pub struct Word {
 }
 
 // The number with one digit more. Past the range it does not grow, so that no sum wraps.
-fn with_digit(number: u64, byte: u8) -> u64 {
-    if byte < b'0' {
+fn with_digit(number: usize, byte: u8) -> usize {
+    let digit = std::num::wrapping_sub_u8(byte, b'0') as usize;
+    if 9 < digit {
         return TOO_LARGE;
     }
-    if b'9' < byte {
-        return TOO_LARGE;
-    }
-    let digit = (byte - b'0') as u64;
     if (TOO_LARGE - digit) / 10 < number {
         return TOO_LARGE;
     }
     number * 10 + digit
 }
 
-// The number that the digits spell.
-pub(crate) fn magnitude(digits: &[u8]) -> u64 {
-    if digits.len() == 0 {
+// The number that the digits from a place on spell.
+pub(crate) fn magnitude(text: &[u8], start: usize) -> usize {
+    if text.len() <= start {
         return TOO_LARGE;
     }
     let mut number = 0;
-    let mut at = 0;
-    while at < digits.len() {
-        number = with_digit(number, digits[at]);
+    let mut at = start;
+    while at < text.len() {
+        number = with_digit(number, text[at]);
         at += 1;
     }
     number
 }
 
+// The sum, which past the range is no number either.
+pub(crate) fn sum(a: usize, b: usize) -> usize {
+    if TOO_LARGE - a < b {
+        return TOO_LARGE;
+    }
+    a + b
+}
+
 // The number of so many above 0.
-fn above_zero(magnitude: u64) -> Word {
+fn above_zero(magnitude: usize) -> Word {
     if 2147483647 < magnitude {
         return Word {
             value: 0,
@@ -54,7 +60,7 @@ fn above_zero(magnitude: u64) -> Word {
 }
 
 // The number of so many below 0. It is made from -1 down, since the least has no counterpart above 0.
-fn below_zero(magnitude: u64) -> Word {
+fn below_zero(magnitude: usize) -> Word {
     if 2147483648 < magnitude {
         return Word {
             value: 0,
@@ -76,11 +82,8 @@ fn below_zero(magnitude: u64) -> Word {
 
 // The signed number that the text spells.
 pub(crate) fn signed(text: &[u8]) -> Word {
-    if text.len() == 0 {
-        return above_zero(TOO_LARGE);
+    if text::starts(text, b'-') {
+        return below_zero(magnitude(text, 1));
     }
-    if text[0] == b'-' {
-        return below_zero(magnitude(&text[1..]));
-    }
-    above_zero(magnitude(text))
+    above_zero(magnitude(text, 0))
 }

@@ -1,152 +1,116 @@
-// Fields of numbers with spaces between. `12*7` stands for twelve sevens.
+// Fields of numbers with spaces between. `12*7` stands for twelve sevens. What is read was found to be numbers that fit before: where it is none, the
+// readers give what they have, and no caller has a fact to show.
 ghost use Prim.Native.Nat.{_≤_};
-ghost use mathlib.Core.Path.{_≡_};
-ghost use lib.ListN.{length, take};
+ghost use lib.ListN.{length};
 use crate::number;
 use crate::text;
 use arena_sections::Sections;
 
-// The words read into a table so far, and whether all of them were numbers that fit.
-pub struct Words {
-    pub count: usize,
-    pub good: bool,
-}
-
-// A single unsigned number, and whether it was one.
-pub struct Unsigned {
-    pub value: u32,
-    pub good: bool,
-}
-
-// A state of the sections, and whether its fields were numbers.
-pub struct GivenSections {
-    pub sections: Sections,
-    pub good: bool,
-}
-
-// How often an entry stands in its table.
-fn times(entry: &[u8]) -> u64 {
-    let copies = text::before(entry, b'*');
-    if copies.len() < entry.len() {
-        return number::magnitude(copies);
+// How often an entry stands in its table, of so many stars and with a good number or none.
+fn times(entry: &[u8], stars: usize, good: bool) -> usize {
+    if good & (stars == 0) {
+        return 1;
     }
-    1
-}
-
-// The text of an entry's number.
-fn repeated(entry: &[u8]) -> &[u8] {
-    let star = text::before(entry, b'*').len();
-    if star < entry.len() {
-        let start = star + 1;
-        return &entry[start..];
+    if good & (stars == 1) {
+        return number::magnitude(text::part(entry, 0, b'*'), 0);
     }
-    entry
+    number::TOO_LARGE
 }
 
-// Stores a number at each place from start to end.
-fn fill(table: &mut [i32], start: usize, end: usize, number: i32)
-    requires { ⌜ end ≤ length (now table) ⌝ }
-{
+// Stores a number at each place from start to end that the table has.
+fn fill(table: &mut [i32], start: usize, end: usize, number: i32) {
     let mut at = start;
     while at < end {
+        if table.len() <= at {
+            return;
+        }
         table[at] = number;
         at += 1;
     }
 }
 
-// Stores an entry behind the words read so far. The empty text between two spaces is none.
-fn put(entry: &[u8], words: Words, table: &mut [i32]) -> Words
-    requires { ⌜ words .count ≤ length (now table) ⌝ }
-    ensures { λ r. ⌜ r .count ≤ length (now (table .exit)) ⌝ }
-{
+// Stores an entry behind so many words, and gives the words with it. The empty text between two spaces is none.
+fn put(entry: &[u8], count: usize, table: &mut [i32]) -> usize {
     if entry.len() == 0 {
+        return count;
+    }
+    let stars = text::last(entry, b'*');
+    let word = number::signed(text::part(entry, stars, b'*'));
+    let end = number::sum(count, times(entry, stars, word.good));
+    fill(table, count, end, word.value);
+    end
+}
+
+// Reads a field into the start of a table, and gives how many words it has: more than any table where one of them is no number.
+pub(crate) fn put_all(field: &[u8], table: &mut [i32]) -> usize {
+    let last = text::last(field, b' ');
+    let mut count = 0;
+    let mut entry = 0;
+    while entry <= last {
+        count = put(text::part(field, entry, b' '), count, table);
+        entry += 1;
+    }
+    count
+}
+
+// Reads a field into a table, and gives the words read.
+pub(crate) fn table<'a>(body: &[u8], field: usize, table: &'a mut [i32]) -> &'a [i32] {
+    let count = put_all(text::part(body, field, b';'), table);
+    let words: &'a [i32] = table;
+    if words.len() < count {
         return words;
     }
-    let start = words.count;
-    let copies = times(entry);
-    let read = number::signed(repeated(entry));
-    let room = table.len() - start;
-    let good = words.good & read.good;
-    if (room as u64) < copies {
-        return Words {
-            count: start,
-            good: false,
-        };
+    &words[..count]
+}
+
+// The number of up to 64 bits that a field spells, with one space before it at most.
+pub(crate) fn single(field: &[u8]) -> usize {
+    if text::starts(field, b' ') {
+        return number::magnitude(field, 1);
     }
-    let end = start + copies as usize;
-    fill(table, start, end, read.value);
-    Words { count: end, good }
+    number::magnitude(field, 0)
 }
 
-// Reads a field into the start of a table. The second clause follows from the first: with it `&table[..count]` needs no proof.
-pub(crate) fn table(body: &[u8], field_number: usize, table: &mut [i32]) -> Words
-    ensures { λ r. ⌜ (r .count ≤ length (now (table .exit))) × (r .count ≡ length (take (r .count) (now (table .exit)))) ⌝ }
-{
-    let field = text::field(body, field_number);
-    let mut words = Words {
-        count: 0,
-        good: true,
-    };
-    let mut start = 0;
-    while start < field.len() {
-        let end = bytes::scan::find(field, start, field.len(), b' ');
-        words = put(&field[start..end], words, table);
-        start = text::after(field, end);
-    }
-    words
+// Reads a field that is a number of up to 64 bits.
+pub(crate) fn long(body: &[u8], field: usize) -> usize {
+    single(text::part(body, field, b';'))
 }
 
-// Reads a field that is a single number of up to 64 bits, with one space before it at most; the number that stands for none where it is none.
-pub(crate) fn long(body: &[u8], field_number: usize) -> u64 {
-    number::magnitude(text::without_space(text::field(body, field_number)))
-}
-
-// Reads a field that is a single number of up to 32 bits.
-pub(crate) fn number(body: &[u8], field_number: usize) -> Unsigned {
-    let value = long(body, field_number);
+// Reads a field that is a number of up to 32 bits.
+pub(crate) fn number(body: &[u8], field: usize) -> u32 {
+    let value = long(body, field);
     if 4294967295 < value {
-        return Unsigned {
-            value: 0,
-            good: false,
-        };
+        return 0;
     }
-    Unsigned {
-        value: value as u32,
-        good: true,
+    value as u32
+}
+
+// Reads a field that is a length, and lends so many bytes of a table.
+pub(crate) fn lent_bytes<'a>(body: &[u8], field: usize, table: &'a mut [u8]) -> &'a mut [u8]
+    ensures { λ r. ⌜ length (now r) ≤ length (now (table .entry)) ⌝ }
+{
+    let length = long(body, field);
+    if table.len() < length {
+        return table;
     }
+    &mut table[..length]
+}
+
+// Reads a field that is a length, and lends so many words of a table.
+pub(crate) fn lent_words<'a>(body: &[u8], field: usize, table: &'a mut [i32]) -> &'a mut [i32] {
+    let length = long(body, field);
+    if table.len() < length {
+        return table;
+    }
+    &mut table[..length]
 }
 
 // Reads a state of the sections: the fields 0 to 3 are head, temp, tail and usable.
-pub(crate) fn sections(body: &[u8]) -> GivenSections {
-    let head = number(body, 0);
-    let temp = number(body, 1);
-    let tail = number(body, 2);
-    let usable = number(body, 3);
-    GivenSections {
-        sections: Sections {
-            head: head.value,
-            temp: temp.value,
-            tail: tail.value,
-            usable: usable.value,
-        },
-        good: (head.good & temp.good) & (tail.good & usable.good),
-    }
-}
-
-// Reads a field that is a length, of so many bytes of a table that they are there. It takes the table for the same reason.
-pub(crate) fn length_within(body: &[u8], field_number: usize, table: &[u8]) -> Words
-    ensures { λ r. ⌜ (r .count ≤ length (now (table .entry))) × (r .count ≡ length (take (r .count) (now (table .entry)))) ⌝ }
-{
-    let read = number(body, field_number);
-    let count = read.value as usize;
-    if table.len() < count {
-        return Words {
-            count: 0,
-            good: false,
-        };
-    }
-    Words {
-        count,
-        good: read.good,
+pub(crate) fn sections(body: &[u8]) -> Sections {
+    Sections {
+        head: number(body, 0),
+        temp: number(body, 1),
+        tail: number(body, 2),
+        usable: number(body, 3),
     }
 }

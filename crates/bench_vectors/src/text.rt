@@ -1,64 +1,44 @@
-// Pieces of a vector's line. The fields after its colon stand between semicolons; the first is field 0.
-ghost use Prim.Native.Nat.{_+_, _≤_, min};
-ghost use mathlib.Core.Path.{_≡_};
+// Parts of a text, between separators. The first is part 0.
+ghost use Prim.Native.Nat.{_≤_};
 ghost use lib.ListN.{length};
 
-// The text before the first such byte, else all of it.
-pub(crate) fn before(text: &[u8], byte: u8) -> &[u8] {
-    let end = bytes::scan::find(text, 0, text.len(), byte);
-    &text[..end]
-}
-
-// The place after a separator, and no further than the end.
-pub(crate) fn after(text: &[u8], separator: usize) -> usize
-    ensures { λ r. ⌜ r ≡ min (separator + 1) (length (now (text .entry))) ⌝ }
+// The number of the last part, which is how many separators there are.
+pub(crate) fn last(text: &[u8], separator: u8) -> usize
+    ensures { λ r. ⌜ r ≤ length (now (text .entry)) ⌝ }
 {
-    if separator < text.len() {
-        return separator + 1;
-    }
-    text.len()
-}
-
-// How many fields there are.
-pub(crate) fn field_count(body: &[u8]) -> usize {
-    let mut start = 0;
-    let mut count = 1;
-    while start < body.len() {
-        if body[start] == b';' {
+    let mut at = 0;
+    let mut count = 0;
+    while at < text.len() {
+        if text[at] == separator {
             count += 1;
         }
-        start += 1;
+        at += 1;
     }
     count
 }
 
-// Where a field starts, the first being field 0; past the last field it is the end.
-fn field_start(body: &[u8], field: usize) -> usize
-    ensures { λ r. ⌜ r ≤ length (now (body .entry)) ⌝ }
-{
+// The part of that number, or the last where there are fewer.
+pub(crate) fn part(text: &[u8], number: usize, separator: u8) -> &[u8] {
+    let mut left = number;
     let mut start = 0;
-    let mut left = field;
-    while 0 < left {
-        start = after(body, bytes::scan::find(body, start, body.len(), b';'));
-        left -= 1;
+    let mut at = 0;
+    while at < text.len() {
+        if text[at] == separator {
+            if left == 0 {
+                break;
+            }
+            left -= 1;
+            start = at + 1;
+        }
+        at += 1;
     }
-    start
+    &text[start..at]
 }
 
-// The text of a field.
-pub(crate) fn field(body: &[u8], number: usize) -> &[u8] {
-    let start = field_start(body, number);
-    let end = bytes::scan::find(body, start, body.len(), b';');
-    &body[start..end]
-}
-
-// The text without the space that it may start with.
-pub(crate) fn without_space(text: &[u8]) -> &[u8] {
+// Whether the text starts with such a byte.
+pub(crate) fn starts(text: &[u8], byte: u8) -> bool {
     if text.len() == 0 {
-        return text;
+        return false;
     }
-    if text[0] == b' ' {
-        return &text[1..];
-    }
-    text
+    text[0] == byte
 }

@@ -1,36 +1,29 @@
 -- `bench_vectors::run_lines` is safe and ends: every turn passes a line.
-use Prim.Native.Nat.{_-_}
+use Prim.Native.Nat.{_+_, _-_}
 use native.Mathlib.Omega.{arith}
-use lib.ListN.{length}
 use Rattle.bench_vectors.proofs.run_lines.Statement.{statement}
 use Rattle.bench_vectors.proofs.run_lines.Tie as tie
 
 abbrev Inv-loop : tie.InvT-loop
-Inv-loop text start₀ start = Unit {0}
+Inv-loop text last line₀ line = Unit {0}
 
 abbrev μ-loop : tie.MeasureT-loop
-μ-loop text start₀ start = length text - start
+μ-loop text last line₀ line = last + 1 - line
+
+last-requires : tie.Need-last-requires Inv-loop μ-loop
+last-requires c κs = tt
 
 loop-holds : tie.Need-loop-holds Inv-loop μ-loop
 loop-holds c = tt
 
-find-requires : tie.Need-find-requires Inv-loop μ-loop
-find-requires c κs = omega arith
-
-sub-run-line : tie.Need-sub-run-line Inv-loop μ-loop
-sub-run-line c = omega arith
-
-part-run-line-start : tie.Need-part-run-line-start Inv-loop μ-loop
-part-run-line-start c = omega arith
-
-part-run-line-end : tie.Need-part-run-line-end Inv-loop μ-loop
-part-run-line-end c = omega arith
+part-requires : tie.Need-part-requires Inv-loop μ-loop
+part-requires c κs = tt
 
 run-line-requires : tie.Need-run-line-requires Inv-loop μ-loop
 run-line-requires c κs = tt
 
-after-requires : tie.Need-after-requires Inv-loop μ-loop
-after-requires c κs = tt
+add-line : tie.Need-add-line Inv-loop μ-loop
+add-line c = omega arith
 
 loop-less : tie.Need-loop-less Inv-loop μ-loop
 loop-less c = omega arith
@@ -47,13 +40,11 @@ run-lines-spec =
     (tie.spec
     Inv-loop
     μ-loop
+    last-requires
     loop-holds
-    find-requires
-    sub-run-line
-    part-run-line-start
-    part-run-line-end
+    part-requires
     run-line-requires
-    after-requires
+    add-line
     loop-less
     loop-again
     returns)

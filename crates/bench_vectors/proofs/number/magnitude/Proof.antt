@@ -6,10 +6,10 @@ use Rattle.bench_vectors.proofs.number.magnitude.Statement.{statement}
 use Rattle.bench_vectors.proofs.number.magnitude.Tie as tie
 
 abbrev Inv-loop : tie.InvT-loop
-Inv-loop digits number₀ at₀ number at = Unit {0}
+Inv-loop text start number₀ at₀ number at = Unit {0}
 
 abbrev μ-loop : tie.MeasureT-loop
-μ-loop digits number₀ at₀ number at = length digits - at
+μ-loop text start number₀ at₀ number at = length text - at
 
 returns : tie.Need-returns Inv-loop μ-loop
 returns c = tt

@@ -1,4 +1,4 @@
--- `bench_vectors::print::words` is safe and ends: every turn passes the equal entries, of which there is one at least.
+-- `bench_vectors::print::words` is safe and ends: no more entries are counted than were passed.
 use Prim.Native.Nat.{_≤_, _-_}
 use native.Mathlib.Omega.{arith}
 use lib.ListN.{length}
@@ -6,25 +6,28 @@ use Rattle.bench_vectors.proofs.print.words.Statement.{statement}
 use Rattle.bench_vectors.proofs.print.words.Tie as tie
 
 abbrev Inv-loop : tie.InvT-loop
-Inv-loop table start₀ start = start ≤ length table
+Inv-loop heading table count₀ at₀ count at = count ≤ at
 
 abbrev μ-loop : tie.MeasureT-loop
-μ-loop table start₀ start = length table - start
+μ-loop heading table count₀ at₀ count at = length table - at
+
+text-requires : tie.Need-text-requires Inv-loop μ-loop
+text-requires c κs = tt
 
 loop-holds : tie.Need-loop-holds Inv-loop μ-loop
 loop-holds c = omega arith
 
-run-end-requires : tie.Need-run-end-requires Inv-loop μ-loop
-run-end-requires c κs = omega arith
+natural-requires : tie.Need-natural-requires Inv-loop μ-loop
+natural-requires c κs = tt
 
-sub-copies : tie.Need-sub-copies Inv-loop μ-loop
-sub-copies c = omega arith
+add-count : tie.Need-add-count Inv-loop μ-loop
+add-count c = omega arith
 
-mul-copies : tie.Need-mul-copies Inv-loop μ-loop
-mul-copies c = omega arith
+add-at : tie.Need-add-at Inv-loop μ-loop
+add-at c = omega arith
 
-shared-slice-copy-out-copies : tie.Need-shared-slice-copy-out-copies Inv-loop μ-loop
-shared-slice-copy-out-copies c = omega arith
+natural-requires-2 : tie.Need-natural-requires-2 Inv-loop μ-loop
+natural-requires-2 c κs = tt
 
 copies-requires : tie.Need-copies-requires Inv-loop μ-loop
 copies-requires c κs = tt
@@ -35,6 +38,12 @@ loop-less c = omega arith
 loop-again : tie.Need-loop-again Inv-loop μ-loop
 loop-again c = omega arith
 
+loop-less-2 : tie.Need-loop-less-2 Inv-loop μ-loop
+loop-less-2 c = omega arith
+
+loop-again-2 : tie.Need-loop-again-2 Inv-loop μ-loop
+loop-again-2 c = omega arith
+
 returns : tie.Need-returns Inv-loop μ-loop
 returns c = tt
 
@@ -44,12 +53,15 @@ words-spec =
     (tie.spec
     Inv-loop
     μ-loop
+    text-requires
     loop-holds
-    run-end-requires
-    sub-copies
-    mul-copies
-    shared-slice-copy-out-copies
+    natural-requires
+    add-count
+    add-at
+    natural-requires-2
     copies-requires
     loop-less
     loop-again
+    loop-less-2
+    loop-again-2
     returns)
