@@ -40,7 +40,7 @@ fn judge(function: usize, body: &[u8]) {
     let rows = read::table(body, 0, &mut requests);
     let space = read::number(body, 1);
     let proposal = read::table(body, 2, &mut offsets);
-    if function == 0 {
+    if function == functions::INSPECT {
         print::answer(plan_inspector::inspect(rows, space, proposal));
         return;
     }
@@ -69,19 +69,19 @@ fn operate(function: usize, body: &[u8]) -> Outcome {
     let first = read::number(body, 4);
     let second = read::number(body, 5);
     match function {
-        3 => Sections::open(read::long(body, 0) as u64, read::long(body, 1) as u64),
-        4 => sections.allocate_persistent(first, second),
-        5 => sections.allocate_temp(first, second),
-        6 => sections.reset_temp(),
+        functions::OPEN => Sections::open(read::long(body, 0) as u64, read::long(body, 1) as u64),
+        functions::ALLOCATE_PERSISTENT => sections.allocate_persistent(first, second),
+        functions::ALLOCATE_TEMP => sections.allocate_temp(first, second),
+        functions::RESET_TEMP => sections.reset_temp(),
         _ => sections.set_head(first),
     }
 }
 
-// Calls the function of that number in the list of `functions`: inspect and run, from_uses, and those of the sections.
+// Calls the function of that number.
 pub(crate) fn call(function: usize, body: &[u8]) {
     match function {
-        0 | 1 => judge(function, body),
-        2 => from_uses(body),
+        functions::INSPECT | functions::RUN => judge(function, body),
+        functions::FROM_USES => from_uses(body),
         functions::NONE => print::text(b" not a vector"),
         _ => print::outcome(operate(function, body)),
     }

@@ -3,6 +3,26 @@ use crate::number;
 use crate::read;
 use crate::text;
 
+// The rows of the list in `of`, by number.
+pub const INSPECT: usize = 0;
+
+pub const RUN: usize = 1;
+
+pub const FROM_USES: usize = 2;
+
+pub const OPEN: usize = 3;
+
+pub const ALLOCATE_PERSISTENT: usize = 4;
+
+pub const ALLOCATE_TEMP: usize = 5;
+
+pub const RESET_TEMP: usize = 6;
+
+pub const SET_HEAD: usize = 7;
+
+// How many there are; this stands for a line that is no vector.
+pub const NONE: usize = 8;
+
 // Whether a field keeps to its limit. Words are only counted here, so that their table needs no room for them.
 fn field_fits(field: &[u8], limit: &[u8]) -> bool {
     let most = number::magnitude(text::part(limit, 0, b'*'), 0);
@@ -38,9 +58,6 @@ fn is_vector(line: &[u8], row: &[u8]) -> bool {
     }
     false
 }
-
-// The number of rows, which stands for a line that is no vector.
-pub const NONE: usize = 8;
 
 // The first row of whose function the line is a vector.
 fn row_of(line: &[u8], rows: &[u8]) -> usize {
