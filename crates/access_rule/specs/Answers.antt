@@ -9,12 +9,11 @@ use borrow.Author.Tests.{ltb-false, le-ltb, lt-ltb, eqb-true, eq-eqb, ne-eqb, no
 use lib.Dec.{ltb}
 use lib.IntN.{ℤ}
 use lib.ListN.{length}
-use Rattle.answer.specs.Answer.{refused, refusedAt, doneWith, arenaTooShort, badAccess as badAccessNumber}
+use Rattle.answer.specs.Answer.{numberOf, refused, refusedAt, doneWith, arenaTooShort, badAccess as badAccessNumber}
 use Rattle.bounded.specs.Boolean.{neither, neither-holds}
 use Rattle.bounded.specs.Causes.{NoneHolds, AllRefuse, firstCause, follows, follows-more, passed, refused-stands}
 use Rattle.bounded.specs.First.{firstIn, holdsBelow, none-holds}
 use Rattle.bounded.specs.Replaced.{replaced}
-use Rattle.request_table.specs.CheckLaws.{numberOf}
 use Rattle.request_table.specs.Checks.{shapeCauses}
 use Rattle.request_table.specs.Limits.{greatestRows}
 use Rattle.request_table.specs.Table.{rows, wholeRows}

@@ -15,7 +15,7 @@ use borrow.Author.Tests.{leb-true, ltb-true, ltb-false, not-false}
 use lib.Dec.{leb}
 use lib.IntN.{ℤ, pos, negsuc}
 use lib.ListN.{length, getD}
-use Rattle.answer.specs.Answer.{doneWith, refusedAt, badAccess as badAccessNumber}
+use Rattle.answer.specs.Answer.{numberOf, doneWith, refusedAt, badAccess as badAccessNumber}
 use Rattle.bounded.specs.Boolean.{either, contrary}
 use Rattle.bounded.specs.First.{holdsBelow, none-found, none-holds}
 use Rattle.bounded.specs.Lowest.{Lowest}
@@ -23,7 +23,6 @@ use Rattle.bounded.specs.Replaced.{replaced-at}
 use Rattle.words.specs.Words.{natural, isMinusOne}
 use Rattle.words.specs.WordOrders.{within, natural-of, natural-word, one-word}
 use Rattle.request_table.specs.Buffers.{bufferAt, end}
-use Rattle.request_table.specs.CheckLaws.{numberOf}
 use Rattle.request_table.specs.GoodRows.{GoodRow}
 use Rattle.request_table.specs.Limits.{grid, greatestRows}
 use Rattle.request_table.specs.Table.{rows, word, request}

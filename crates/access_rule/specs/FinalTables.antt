@@ -6,8 +6,8 @@ use mathlib.Core.Path.{_≡_, sym, _∙_, ap}
 use native.Mathlib.Omega.{arith}
 use lib.IntN.{ℤ}
 use lib.ListN.{length, getD}
+use Rattle.answer.specs.Answer.{numberOf}
 use Rattle.bounded.specs.Replaced.{replaced-length, replaced-at, replaced-past}
-use Rattle.request_table.specs.CheckLaws.{numberOf}
 use Rattle.access_rule.specs.Accesses.{count}
 use Rattle.access_rule.specs.Answers.{done-says, done-arena, done-bytes}
 use Rattle.access_rule.specs.Demand3.{Writes, fallsOn, ScriptDone, falls, writes-of, write-says}

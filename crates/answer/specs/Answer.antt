@@ -118,3 +118,7 @@ refusedPair number a b = record { number = number; a = a; b = b; need = 0 }
 -- Refused for a need, which is carried.
 abbrev pub refusedNeed : ℕ → ℕ → Answer
 refusedNeed number need = record { number = number; a = 0; b = 0; need = need }
+
+-- The number alone, as the laws of causes ask for it.
+abbrev pub numberOf : Answer → ℕ
+numberOf x = x .number

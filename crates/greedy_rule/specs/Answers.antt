@@ -8,13 +8,13 @@ use mathlib.Core.Path.{_≡_, refl, sym, _∙_, ap}
 use native.Mathlib.Omega.{arith}
 use borrow.Author.Tests.{ltb-false, lt-ltb, le-ltb}
 use lib.IntN.{ℤ}
-use Rattle.answer.specs.Answer.{doneWith, refusedPair, refusedNeed, fixedRowsCollide, needExceedsSpace}
+use Rattle.answer.specs.Answer.{numberOf, doneWith, refusedPair, refusedNeed, fixedRowsCollide, needExceedsSpace}
 use Rattle.bounded.specs.Boolean.{both, both-hold, contrary, lt-or-le}
 use Rattle.bounded.specs.Causes.{NoneHolds, AllRefuse, firstCause, follows, follows-more, passed, refused-stands}
 use Rattle.bounded.specs.Lowest.{LeastPair, least-of}
 use Rattle.bounded.specs.Pair.{pairBelow, pairFirst, pairSecond, no-pair, none-paired}
 use Rattle.request_table.specs.Buffers.{bufferAt}
-use Rattle.request_table.specs.CheckLaws.{Checked, numberOf, none-refuses, checked}
+use Rattle.request_table.specs.CheckLaws.{Checked, none-refuses, checked}
 use Rattle.request_table.specs.Checks.{tableCauses, checkOf}
 use Rattle.request_table.specs.Colliding.{Colliding, collides-says, collides-of}
 use Rattle.request_table.specs.Table.{rows, fixed, fixedOffset}

@@ -6,8 +6,7 @@ use mathlib.Core.Logic.{_⊎_, inl, inr, _↔_}
 use mathlib.Core.Path.{_≡_, refl, ap}
 use native.Mathlib.Omega.{arith}
 use lib.IntN.{ℤ}
-use Rattle.answer.specs.Answer.{done, fixedRowsCollide, needExceedsSpace, doneWith, refusedNeed}
-use Rattle.request_table.specs.CheckLaws.{numberOf}
+use Rattle.answer.specs.Answer.{numberOf, done, fixedRowsCollide, needExceedsSpace, doneWith, refusedNeed}
 use Rattle.request_table.specs.Limits.{greatestSpace}
 use Rattle.request_table.specs.Table.{rows}
 use Rattle.request_table.specs.WellFormed.{WellFormed, passes}

@@ -8,11 +8,11 @@ use borrow.Author.Tests.{lt-ltb, le-ltb}
 use lib.IntN.{ℤ}
 use lib.ListN.{length}
 use Rattle.answer.specs.declared.Answer.{Answer}
-use Rattle.answer.specs.Answer.{doneWith, refusedAt, refusedPair, refusedNeed, needExceedsSpace, fixedRowMoved, badOffset, rowsCollide}
+use Rattle.answer.specs.Answer.{numberOf, doneWith, refusedAt, refusedPair, refusedNeed, needExceedsSpace, fixedRowMoved, badOffset, rowsCollide}
 use Rattle.bounded.specs.Causes.{NoneHolds, AllRefuse, firstCause, follows, follows-more, passed, refused-stands}
 use Rattle.bounded.specs.First.{firstIn, holdsBelow}
 use Rattle.bounded.specs.Pair.{pairBelow, pairFirst, pairSecond}
-use Rattle.request_table.specs.CheckLaws.{Checked, numberOf, none-refuses}
+use Rattle.request_table.specs.CheckLaws.{Checked, none-refuses}
 use Rattle.request_table.specs.Checks.{tableCauses, checkOf}
 use Rattle.request_table.specs.Table.{rows}
 use Rattle.inspection_rule.specs.Inspect.{moved, offGrid, proposedNeed, proposedCollide, movedCauses, gridCauses, needCauses, pairCauses, offsetCauses, planCauses, ownCauses, acceptedAnswer, pairOf, proposalOf, inspectOf}

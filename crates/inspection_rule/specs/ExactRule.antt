@@ -12,7 +12,7 @@ use lib.Dec.{eqb}
 use lib.IntN.{ℤ, pos, negsuc}
 use lib.ListN.{length}
 use lib.Signed.{ltZ}
-use Rattle.answer.specs.Answer.{doneWith}
+use Rattle.answer.specs.Answer.{numberOf, doneWith}
 use Rattle.bounded.specs.Boolean.{contrary, lt-or-le, refuted}
 use Rattle.bounded.specs.Causes.{NoneHolds, AllRefuse, follows, passed}
 use Rattle.bounded.specs.First.{none-holds, none-found}
@@ -20,7 +20,7 @@ use Rattle.bounded.specs.Pair.{no-pair, none-paired}
 use Rattle.words.specs.Words.{wordAt, natural, isMinusOne}
 use Rattle.words.specs.WordOrders.{within, one-word, minus-one-of}
 use Rattle.request_table.specs.Buffers.{occupied, bufferAt, need}
-use Rattle.request_table.specs.CheckLaws.{Checked, numberOf, checked}
+use Rattle.request_table.specs.CheckLaws.{Checked, checked}
 use Rattle.request_table.specs.Checks.{tableCauses, checkOf}
 use Rattle.request_table.specs.Colliding.{Colliding, apart, not-colliding}
 use Rattle.request_table.specs.GoodRows.{good-offset}

@@ -9,12 +9,11 @@ use borrow.Author.Tests.{ltb-false, le-ltb, lt-ltb, eqb-true, eqb-false, eq-eqb,
 use lib.Dec.{ltb, eqb}
 use lib.IntN.{ℤ}
 use lib.ListN.{length}
-use Rattle.answer.specs.Answer.{refused, refusedAt, doneWith, notWholeRows, tooMany, tableTooShort, badRow, tensorNeverNamed, readBeforeWritten}
+use Rattle.answer.specs.Answer.{numberOf, refused, refusedAt, doneWith, notWholeRows, tooMany, tableTooShort, badRow, tensorNeverNamed, readBeforeWritten}
 use Rattle.bounded.specs.Boolean.{neither, neither-holds}
 use Rattle.bounded.specs.Causes.{NoneHolds, AllRefuse, firstCause, follows-more, passed, refused-stands}
 use Rattle.bounded.specs.First.{firstIn, holdsBelow, none-holds, none-found}
 use Rattle.bounded.specs.Replaced.{replaced}
-use Rattle.request_table.specs.CheckLaws.{numberOf}
 use Rattle.lifetime_rule.specs.Lives.{unnamed, tooEarly, lifeWord}
 use Rattle.lifetime_rule.specs.Lifetimes.{outOfLimits, sizeCauses, useCauses, listCauses, lifeCauses, causes, sizesOf, listOf, livesOf, lifetimesOf, finalLifetimes}
 use Rattle.lifetime_rule.specs.Uses.{greatestOperators, greatestTensors, greatestUses, count, wholeUses, useAt, good, badUse}

@@ -9,12 +9,11 @@ use native.Mathlib.Omega.{arith}
 use borrow.Author.Tests.{ltb-true, ltb-false, lt-ltb, ne-eqb, eq-eqb, not-true, not-false}
 use lib.IntN.{ℤ}
 use lib.ListN.{length}
-use Rattle.answer.specs.Answer.{refused, refusedAt, doneWith, notWholeRows, tooMany, tableTooShort, badRow, tensorNeverNamed, readBeforeWritten}
+use Rattle.answer.specs.Answer.{numberOf, refused, refusedAt, doneWith, notWholeRows, tooMany, tableTooShort, badRow, tensorNeverNamed, readBeforeWritten}
 use Rattle.bounded.specs.Boolean.{contrary, lt-or-le, same-or-not, refuted}
 use Rattle.bounded.specs.Causes.{firstCause}
 use Rattle.bounded.specs.First.{holdsBelow, found, none-holds}
 use Rattle.bounded.specs.Lowest.{Lowest, lowest-of}
-use Rattle.request_table.specs.CheckLaws.{numberOf}
 use Rattle.lifetime_rule.specs.Answers.{Sized, EachGood, limits-say, limits-of, name-refused, read-refused, lives-passed, use-refused, list-stands, lives-decide}
 use Rattle.lifetime_rule.specs.GoodUses.{GoodUse, Natural, good-natural, good-says, good-of}
 use Rattle.lifetime_rule.specs.Lives.{named, unnamed, tooEarly}

@@ -10,14 +10,13 @@ use borrow.Author.Tests.{not-false}
 use lib.IntN.{ℤ, pos}
 use lib.ListN.{length}
 use lib.Signed.{_≤ℤ_}
-use Rattle.answer.specs.Answer.{doneWith}
+use Rattle.answer.specs.Answer.{numberOf, doneWith}
 use Rattle.bounded.specs.First.{first-lowest, found}
 use Rattle.bounded.specs.Last.{last-is, last-highest}
 use Rattle.bounded.specs.Replaced.{replaced-length, replaced-at, replaced-past}
 use Rattle.bounded.specs.TwoEach.{two-first, two-second}
 use Rattle.words.specs.Words.{wordAt, natural}
 use Rattle.words.specs.WordOrders.{le-of}
-use Rattle.request_table.specs.CheckLaws.{numberOf}
 use Rattle.request_table.specs.Limits.{lastMoment}
 use Rattle.lifetime_rule.specs.Answers.{Done, done-says, done-lifetimes}
 use Rattle.lifetime_rule.specs.GoodUses.{Natural, tests, good-natural}

@@ -7,8 +7,7 @@ use native.Mathlib.Omega.{arith}
 use borrow.Author.Tests.{ltb-false, le-ltb, lt-ltb, eqb-true, eq-eqb, not-false}
 use lib.IntN.{ℤ}
 use lib.ListN.{length}
-use Rattle.answer.specs.declared.Answer.{Answer}
-use Rattle.answer.specs.Answer.{refused, refusedAt, doneWith, spaceTooLarge, badRow as badRowNumber}
+use Rattle.answer.specs.Answer.{numberOf, refused, refusedAt, doneWith, spaceTooLarge, badRow as badRowNumber}
 use Rattle.bounded.specs.Causes.{NoneHolds, AllRefuse, firstCause, follows-more, passed, refused-stands}
 use Rattle.bounded.specs.First.{firstIn, holdsBelow, none-holds, none-found}
 use Rattle.request_table.specs.Limits.{greatestRows, greatestSpace}
@@ -26,10 +25,6 @@ pub record Checked (g : ℕ) (t : List ℤ) (space room : ℕ) : Type 0 where
   pub shaped : Shaped t room
   pub allowed : space ≤ greatestSpace
   pub goodRows : (r : ℕ) → r < rows t → good g (request t r) ≡ true
-
--- An answer's number, as the laws of causes ask for it.
-abbrev pub numberOf : Answer → ℕ
-numberOf x = x .number
 
 module _ (g : ℕ) (t : List ℤ) (space : ℕ) where
   -- The checks 4 and 5, as the code goes through them: the space first,

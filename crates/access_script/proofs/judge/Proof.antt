@@ -3,7 +3,7 @@ use mathlib.Core.Path.{_≡_, sym, _∙_, ap}
 use native.Mathlib.Omega.{arith}
 use denote.Ref.{now}
 use borrow.Author.Needs.{needs}
-use Rattle.request_table.specs.CheckLaws.{numberOf}
+use Rattle.answer.specs.Answer.{numberOf}
 use Rattle.access_rule.specs.Answers.{Sized, lengths-passed, lengths-stand, inspection-stands, touches-decide, touches-done}
 use Rattle.access_script.proofs.judge.Statement.{statement}
 use Rattle.access_script.proofs.judge.Tie as tie

@@ -4,7 +4,7 @@ use native.Mathlib.Omega.{arith}
 use denote.Ref.{now}
 use borrow.Author.Needs.{needs}
 use lib.ListN.{length}
-use Rattle.request_table.specs.CheckLaws.{numberOf}
+use Rattle.answer.specs.Answer.{numberOf}
 use Rattle.request_table.specs.Limits.{grid}
 use Rattle.access_rule.specs.Answers.{done-says, done-arena, done-bytes, refusal-keeps}
 use Rattle.access_rule.specs.Ready.{ready}

@@ -7,9 +7,9 @@ use native.Mathlib.Omega.{arith}
 use denote.Ref.{now}
 use borrow.Author.Needs.{needs}
 use lib.IntN.{ℤ}
-use Rattle.answer.specs.Answer.{refusedPair, fixedRowsCollide}
+use Rattle.answer.specs.Answer.{numberOf, refusedPair, fixedRowsCollide}
 use Rattle.bounded.specs.Pair.{pairBelow, pairFirst, pairSecond, least-pair}
-use Rattle.request_table.specs.CheckLaws.{Checked, checked, numberOf}
+use Rattle.request_table.specs.CheckLaws.{Checked, checked}
 use Rattle.request_table.specs.Limits.{greatestRows}
 use Rattle.request_table.specs.Table.{rows}
 use Rattle.greedy_rule.specs.Plan.{fixedCollide}

@@ -2,7 +2,7 @@
 use mathlib.Core.Path.{_∙_, ap}
 use native.Mathlib.Omega.{arith}
 use borrow.Author.Needs.{needs}
-use Rattle.request_table.specs.CheckLaws.{numberOf}
+use Rattle.answer.specs.Answer.{numberOf}
 use Rattle.greedy_rule.specs.Answers.{fit-refused, fit-done}
 use Rattle.greedy_planner.proofs.fit.Statement.{statement}
 use Rattle.greedy_planner.proofs.fit.Tie as tie

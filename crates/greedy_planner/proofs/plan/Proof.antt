@@ -4,7 +4,7 @@ use native.Mathlib.Omega.{arith}
 use denote.Ref.{now}
 use borrow.Author.Needs.{needs}
 use lib.ListN.{length}
-use Rattle.request_table.specs.CheckLaws.{numberOf}
+use Rattle.answer.specs.Answer.{numberOf}
 use Rattle.request_table.specs.Limits.{grid}
 use Rattle.greedy_rule.specs.Answers.{Done, done-says}
 use Rattle.greedy_rule.specs.DonePlans.{refusal-keeps}

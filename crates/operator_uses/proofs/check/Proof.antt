@@ -4,7 +4,7 @@ use mathlib.Core.Path.{sym, _∙_, ap}
 use native.Mathlib.Omega.{arith}
 use denote.Ref.{now}
 use borrow.Author.Needs.{needs}
-use Rattle.request_table.specs.CheckLaws.{numberOf}
+use Rattle.answer.specs.Answer.{numberOf}
 use Rattle.lifetime_rule.specs.Answers.{Sized, sizes-passed, sizes-stand, use-refused, list-passed}
 use Rattle.lifetime_rule.specs.Uses.{count}
 use Rattle.operator_uses.proofs.check.Statement.{statement}

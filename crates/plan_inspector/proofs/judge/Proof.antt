@@ -3,7 +3,8 @@ use mathlib.Core.Path.{sym, _∙_, ap}
 use denote.Ref.{now}
 use borrow.Author.Needs.{needs}
 use lib.ListN.{length}
-use Rattle.request_table.specs.CheckLaws.{Checked, checked, numberOf}
+use Rattle.answer.specs.Answer.{numberOf}
+use Rattle.request_table.specs.CheckLaws.{Checked, checked}
 use Rattle.inspection_rule.specs.Answers.{check-stands, proposal-decides}
 use Rattle.plan_inspector.proofs.judge.Statement.{statement}
 use Rattle.plan_inspector.proofs.judge.Tie as tie

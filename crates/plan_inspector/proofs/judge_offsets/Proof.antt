@@ -7,9 +7,8 @@ use denote.Ref.{now}
 use borrow.Author.Needs.{needs}
 use borrow.Author.Tests.{ltb-true, ltb-false, eqb-true, not-false}
 use lib.IntN.{ℤ}
-use Rattle.answer.specs.Answer.{doneWith, refusedAt, refusedNeed, fixedRowMoved, badOffset, needExceedsSpace}
+use Rattle.answer.specs.Answer.{numberOf, doneWith, refusedAt, refusedNeed, fixedRowMoved, badOffset, needExceedsSpace}
 use Rattle.bounded.specs.First.{firstIn, first-is}
-use Rattle.request_table.specs.CheckLaws.{numberOf}
 use Rattle.request_table.specs.Table.{rows}
 use Rattle.inspection_rule.specs.Answers.{moved-refused, grid-refused, need-refused, placed-decides, pair-decides, passed-is-accepted}
 use Rattle.inspection_rule.specs.Inspect.{moved, offGrid, proposedNeed, pairOf, proposalOf}

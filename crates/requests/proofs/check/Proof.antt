@@ -2,7 +2,8 @@
 use mathlib.Core.Path.{sym, _∙_, ap}
 use denote.Ref.{now}
 use borrow.Author.Needs.{needs}
-use Rattle.request_table.specs.CheckLaws.{Shaped, numberOf, shape-passed, shape-refused, content-decides}
+use Rattle.answer.specs.Answer.{numberOf}
+use Rattle.request_table.specs.CheckLaws.{Shaped, shape-passed, shape-refused, content-decides}
 use Rattle.requests.proofs.check.Statement.{statement}
 use Rattle.requests.proofs.check.Tie as tie
 

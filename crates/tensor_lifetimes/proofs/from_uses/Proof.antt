@@ -3,7 +3,7 @@ use mathlib.Core.Path.{_≡_, sym, _∙_, ap}
 use denote.Ref.{now}
 use borrow.Author.Needs.{needs}
 use lib.ListN.{length}
-use Rattle.request_table.specs.CheckLaws.{numberOf}
+use Rattle.answer.specs.Answer.{numberOf}
 use Rattle.lifetime_rule.specs.Answers.{Sized, EachGood, listed, list-stands, lives-decide, done-says, done-lifetimes, refusal-keeps}
 use Rattle.lifetime_rule.specs.Lifetimes.{lifetimesOf}
 use Rattle.tensor_lifetimes.proofs.Judging.{stored-is, storable}
