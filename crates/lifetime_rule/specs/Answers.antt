@@ -126,6 +126,11 @@ module _ (operators tensors : ℕ) (u : List ℤ) (room : ℕ) where
   sizes-none z =
       (ap not (eq-eqb _ _ (z .whole)), (limits-of operators tensors u (z .few-uses) (z .few-operators) (z .few-tensors) (z .some-operator), (le-ltb _ _ (z .roomy), tt)))
 
+  -- No use is found bad: every use is good,
+  pub good-of-none : holdsBelow (badUse operators tensors u) (count u) ≡ false → EachGood operators tensors u
+  good-of-none e = record { each = λ k l. not-false _ (none-holds (badUse operators tensors u) (count u) e k l) }
+
+  -- and the other way.
   uses-none : EachGood operators tensors u → NoneHolds (useCauses operators tensors u)
   uses-none g = (none-found (badUse operators tensors u) (count u) (λ k l. ap not (g .each k l)), tt)
 
@@ -163,7 +168,7 @@ module _ (operators tensors : ℕ) (u : List ℤ) (room : ℕ) where
   unfolding listOf
   listed e =
       let n = passed numberOf (listCauses operators tensors u room) (doneWith 0) list-refuses e .0 in
-      (sized-of (n .0, (n .1 .0, (n .1 .1 .0, tt))), record { each = λ k l. not-false _ (none-holds (badUse operators tensors u) (count u) (n .1 .1 .1 .0) k l) })
+      (sized-of (n .0, (n .1 .0, (n .1 .1 .0, tt))), good-of-none (n .1 .1 .1 .0))
 
   -- A refusal of the four stands;
   pub list-stands : (listOf operators tensors u room .number ≡ 0 → ⊥) → listOf operators tensors u room ≡ lifetimesOf operators tensors u room
@@ -192,7 +197,7 @@ module _ (operators tensors : ℕ) (u : List ℤ) (room : ℕ) where
       let n = passed numberOf (causes operators tensors u room) (doneWith 0) all-refuse e .0 in
       record {
         sized = sized-of (n .0, (n .1 .0, (n .1 .1 .0, tt)));
-        uses-good = record { each = λ k l. not-false _ (none-holds (badUse operators tensors u) (count u) (n .1 .1 .1 .0) k l) };
+        uses-good = good-of-none (n .1 .1 .1 .0);
         all-named = none-holds (unnamed operators u) tensors (n .1 .1 .1 .1 .0);
         none-early = none-holds (tooEarly u) (count u) (n .1 .1 .1 .1 .1 .0);
       }

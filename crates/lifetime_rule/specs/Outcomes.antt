@@ -14,7 +14,7 @@ use Rattle.bounded.specs.Boolean.{contrary, lt-or-le, same-or-not, refuted}
 use Rattle.bounded.specs.Causes.{firstCause}
 use Rattle.bounded.specs.First.{holdsBelow, found, none-holds}
 use Rattle.bounded.specs.Lowest.{Lowest, lowest-of}
-use Rattle.lifetime_rule.specs.Answers.{Sized, EachGood, limits-say, limits-of, name-refused, read-refused, lives-passed, use-refused, list-stands, lives-decide}
+use Rattle.lifetime_rule.specs.Answers.{Sized, EachGood, good-of-none, limits-say, limits-of, name-refused, read-refused, lives-passed, use-refused, list-stands, lives-decide}
 use Rattle.lifetime_rule.specs.GoodUses.{GoodUse, Natural, good-natural, good-says, good-of}
 use Rattle.lifetime_rule.specs.Lives.{named, unnamed, tooEarly}
 use Rattle.lifetime_rule.specs.Lifetimes.{outOfLimits, lifetimesOf}
@@ -113,7 +113,7 @@ module _ (operators tensors : ℕ) (u : List ℤ) (room : ℕ) where
         bad-use _ z (lowest-of (badUse operators tensors u) (count u) (λ k l. bad-says k) (λ k l. bad-of k) e)
         (sym (told ∙ list-stands operators tensors u room (λ n. omega (arith, ap numberOf told, n))))
     uses-outcome false e =
-        lives-outcome (record { each = λ k l. not-false _ (none-holds (badUse operators tensors u) (count u) e k l) })
+        lives-outcome (good-of-none operators tensors u room e)
         (holdsBelow (unnamed operators u) tensors) refl (holdsBelow (tooEarly u) (count u)) refl
 
   -- So it is answered.

@@ -250,14 +250,15 @@ gathered-start operators u e =
       each = λ t l. ap (λ (xs : List Life). lifeIn xs t) e ∙ getD-replicate greatestTensors t (noLife operators) (noLife 0) l ∙ nothing-known operators u t;
     }
 
-module _ {operators : ℕ} {u : List ℤ} (g : GoodList operators u) {lives : List Life} {j : ℕ} (w : Gathered operators u lives j) where
-  -- The use's tensor has its place in the array, and its operator its bound.
-  pub within-limits : {x : Use} → x ≡ useAt u j → j < count u → (x .tensor .0 < greatestTensors) × (x .operator .0 ≤ greatestOperators)
-  within-limits {x} e l =
-      let y = tests operators (g .tensors) (useAt u j) (g .each j l) in
-      subst (λ (z : Use). (z .tensor .0 < greatestTensors) × (z .operator .0 ≤ greatestOperators)) (sym e)
-      (omega (arith, y .tensor, g .few-tensors), omega (arith, y .operator, g .few-operators))
+-- The tensor of a use of a good list has its place in the array, and its operator its bound.
+pub within-limits : {operators : ℕ} {u : List ℤ} → GoodList operators u → {j : ℕ} {x : Use} → x ≡ useAt u j → j < count u
+    → (x .tensor .0 < greatestTensors) × (x .operator .0 ≤ greatestOperators)
+within-limits {operators} {u} g {j} e l =
+    let y = tests operators (g .tensors) (useAt u j) (g .uses-good .each j l) in
+    subst (λ (z : Use). (z .tensor .0 < greatestTensors) × (z .operator .0 ≤ greatestOperators)) (sym e)
+    (omega (arith, y .tensor, g .few-tensors), omega (arith, y .operator, g .few-operators))
 
+module _ {operators : ℕ} {u : List ℤ} (g : GoodList operators u) {lives : List Life} {j : ℕ} (w : Gathered operators u lives j) where
   -- One use more.
   pub gathered-more : {x : Use} {v : Life} → j < count u → x ≡ useAt u j → v ≡ lifeWith (lifeIn lives (x .tensor .0)) x → Gathered operators u (set lives (x .tensor .0) v) (j + 1)
   gathered-more {x} {v} l e q =
@@ -270,13 +271,13 @@ module _ {operators : ℕ} {u : List ℤ} (g : GoodList operators u) {lives : Li
       new : v ≡ lifeSoFar operators u (j + 1) (x .tensor .0)
       new =
           q
-          ∙ ap (λ (y : Life). lifeWith y x) (w .each (x .tensor .0) (within-limits e l .0))
-          ∙ subst (λ (y : Use). lifeWith (lifeSoFar operators u j (y .tensor .0)) y ≡ lifeSoFar operators u (j + 1) (y .tensor .0)) (sym e) (own-tensor operators (g .tensors) u j (g .each j l))
+          ∙ ap (λ (y : Life). lifeWith y x) (w .each (x .tensor .0) (within-limits g e l .0))
+          ∙ subst (λ (y : Use). lifeWith (lifeSoFar operators u j (y .tensor .0)) y ≡ lifeSoFar operators u (j + 1) (y .tensor .0)) (sym e) (own-tensor operators (g .tensors) u j (g .uses-good .each j l))
 
       go : (t : ℕ) → t < greatestTensors → (x .tensor .0 ≡ t) ⊎ (x .tensor .0 ≡ t → ⊥) → lifeIn (set lives (x .tensor .0) v) t ≡ lifeSoFar operators u (j + 1) t
       go t m (inl d) =
           subst (λ (i : ℕ). lifeIn (set lives (x .tensor .0) v) i ≡ lifeSoFar operators u (j + 1) i) d
-          (getD-set-same lives (x .tensor .0) v (noLife 0) (omega (arith, w .long, within-limits e l .0)) ∙ new)
+          (getD-set-same lives (x .tensor .0) v (noLife 0) (omega (arith, w .long, within-limits g e l .0)) ∙ new)
       go t m (inr d) =
           getD-set-other lives (x .tensor .0) t v (noLife 0) (λ z. d (sym z))
           ∙ w .each t m

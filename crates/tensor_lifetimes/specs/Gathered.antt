@@ -9,8 +9,9 @@ use lib.ListN.{getD}
 use Rattle.bounded.specs.First.{firstIn, holdsBelow}
 use Rattle.bounded.specs.Last.{endIn}
 use Rattle.bounded.specs.TwoEach.{twoEach}
+use Rattle.lifetime_rule.specs.Answers.{EachGood}
 use Rattle.lifetime_rule.specs.Lives.{names, lets}
-use Rattle.lifetime_rule.specs.Uses.{reads, writes, modelInput, greatestOperators, greatestTensors, count, useAt, good}
+use Rattle.lifetime_rule.specs.Uses.{reads, writes, modelInput, greatestOperators, greatestTensors, count, useAt}
 use Rattle.lifetime_rule.specs.declared.Use.{Use}
 use Rattle.tensor_lifetimes.specs.declared.Life.{Life}
 
@@ -60,7 +61,7 @@ pub record GoodList (operators : ℕ) (u : List ℤ) : Type 0 where
   pub tensors : ℕ
   pub few-tensors : tensors ≤ greatestTensors
   pub few-operators : operators ≤ greatestOperators
-  pub each : (k : ℕ) → k < count u → good operators tensors (useAt u k) ≡ true
+  pub uses-good : EachGood operators tensors u
 
 -- The array has what the whole list says of each tensor.
 pub record HoldsLives (operators : ℕ) (u : List ℤ) (lives : List Life) : Type 0 where

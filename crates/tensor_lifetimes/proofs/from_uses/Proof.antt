@@ -30,7 +30,7 @@ returns c =
 gather-requires : tie.Need-gather-requires
 gather-requires c κs =
     let p = passed c in
-    record { tensors = c .before .before .before .args .tensors; few-tensors = p .0 .few-tensors; few-operators = p .0 .few-operators; each = p .1 .each }
+    record { tensors = c .before .before .before .args .tensors; few-tensors = p .0 .few-tensors; few-operators = p .0 .few-operators; uses-good = p .1 }
 
 judge-requires : tie.Need-judge-requires
 judge-requires c κs = let p = passed (c .before) in (p .1, (c .gather .ensures, (p .0 .few-tensors, p .0 .few-uses)))

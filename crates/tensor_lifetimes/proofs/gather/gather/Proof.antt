@@ -14,7 +14,7 @@ abbrev μ-loop : tie.MeasureT-loop
 
 -- the use that was read is within the limits
 limits : (c : tie.After-use-at Inv-loop μ-loop) → (c .use-at .result .tensor .0 < greatestTensors) × (c .use-at .result .operator .0 ≤ greatestOperators)
-limits c = within-limits (c .before .before .before .before .pre) (c .before .before .loop .inv) (c .use-at .ensures) (c .before .loop-test .taken)
+limits c = within-limits (c .before .before .before .before .pre) (c .use-at .ensures) (c .before .loop-test .taken)
 
 no-lives-requires : tie.Need-no-lives-requires Inv-loop μ-loop
 no-lives-requires c κs = tt
