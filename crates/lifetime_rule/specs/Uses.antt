@@ -1,13 +1,13 @@
 -- The operator list: the raw list of its signed words, three a use: operator, tensor, role (document 01, "The desk's order of checks", Lives).
 -- All is a total function of the list and the use's number. A negative word reads as a number above every limit (`words`), so a test of an upper limit
 -- also refuses it; `GoodUses` says the rule again in signed numbers and proves that it is the same.
-use Prim.Native.Nat.{ℕ, _+_, _*_, _/_, _%_}
+use Prim.Native.Nat.{ℕ}
 use mathlib.Core.Bool.{Bool, not, _&&_, _||_}
 use mathlib.Core.List.{List}
 use lib.Dec.{leb, ltb, eqb}
 use lib.IntN.{ℤ}
-use lib.ListN.{length}
-use Rattle.words.specs.Words.{wordAt, natural}
+use Rattle.words.specs.Rows.{rowsOf, hasWholeRows, wordOf}
+use Rattle.words.specs.Words.{natural}
 use Rattle.lifetime_rule.specs.declared.Use.{Use}
 
 -- "operators T from 1 to 1,024".
@@ -40,15 +40,15 @@ modelOutput = 3
 
 -- How many whole uses the list has.
 abbrev pub count : List ℤ → ℕ
-count u = length u / 3
+count u = rowsOf 3 u
 
 -- Whether it has nothing but whole uses.
 abbrev pub wholeUses : List ℤ → Bool
-wholeUses u = eqb (length u % 3) 0
+wholeUses u = hasWholeRows 3 u
 
 -- The word in a column of a use.
 abbrev pub word : List ℤ → ℕ → ℕ → ℤ
-word u k column = wordAt u (k * 3 + column)
+word u k column = wordOf 3 u k column
 
 -- A use, as the code has it.
 unfoldable pub useAt : List ℤ → ℕ → Use

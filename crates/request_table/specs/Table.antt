@@ -1,27 +1,27 @@
 -- The request table: the raw list of its signed words, four a row: size, first moment, last moment, fixed offset (−1: placed by us).
 -- All is a total function of the table and the row's number. A negative word reads as a number above every limit (`words`), so a test of an upper
 -- limit also refuses it; `GoodRows` says the rule again in signed numbers, as document 01 has it, and proves that it is the same.
-use Prim.Native.Nat.{ℕ, _+_, _*_, _/_, _%_}
+use Prim.Native.Nat.{ℕ, _%_}
 use mathlib.Core.Bool.{Bool, not, _&&_, _||_}
 use mathlib.Core.List.{List}
 use lib.Dec.{leb, eqb}
 use lib.IntN.{ℤ}
-use lib.ListN.{length}
-use Rattle.words.specs.Words.{wordAt, natural, isMinusOne}
+use Rattle.words.specs.Rows.{rowsOf, hasWholeRows, wordOf}
+use Rattle.words.specs.Words.{natural, isMinusOne}
 use Rattle.request_table.specs.Limits.{greatestSpace, lastMoment}
 use Rattle.request_table.specs.declared.Request.{Request}
 
 -- How many whole rows the table has.
 abbrev pub rows : List ℤ → ℕ
-rows t = length t / 4
+rows t = rowsOf 4 t
 
 -- Whether it has nothing but whole rows.
 abbrev pub wholeRows : List ℤ → Bool
-wholeRows t = eqb (length t % 4) 0
+wholeRows t = hasWholeRows 4 t
 
 -- The word in a column of a row.
 abbrev pub word : List ℤ → ℕ → ℕ → ℤ
-word t r column = wordAt t (r * 4 + column)
+word t r column = wordOf 4 t r column
 
 -- A row, as the code has it.
 unfoldable pub request : List ℤ → ℕ → Request
