@@ -30,8 +30,8 @@ use Rattle.request_table.specs.Table.{request, good}
 use Rattle.placement.specs.Placing.{put, free, top, lowest, offsetFor, placing, place}
 use Rattle.greedy_rule.specs.Greedy.{largerFirst, fixedRows, greedyOrder, greedyPlan}
 use Rattle.greedy_rule.specs.Plan.{fixedCollide, greedyNeed, planOf, plannedTable}
-use Rattle.lifetime_rule.specs.Lifetimes.{outOfLimits, lifetimesOf, finalLifetimes}
-use Rattle.lifetime_rule.specs.Lives.{names, named, firstOf, lastOf, unnamed, lets, readable, tooEarly}
+use Rattle.lifetime_rule.specs.FromUses.{outOfLimits, lifetimesOf, finalLifetimes}
+use Rattle.lifetime_rule.specs.Lifetimes.{names, named, firstOf, lastOf, unnamed, lets, readable, tooEarly}
 use Rattle.lifetime_rule.specs.Uses.{reads, writes, modelInput, modelOutput, useAt, good as goodUse}
 
 -- An answer, and the words after it.
@@ -150,8 +150,8 @@ abbrev one-use : ℕ → ℕ → ℕ → List ℤ
 one-use operator tensor role = pos operator ∷ pos tensor ∷ pos role ∷ []
 
 -- The lives of so many tensors under so many operators, over a lent table, and the answer and words that are wanted.
-abbrev lived : ℕ → ℕ → List ℤ → List ℤ → Answer → List ℤ → Sheet
-lived operators tensors uses lent answer words =
+abbrev given-uses : ℕ → ℕ → List ℤ → List ℤ → Answer → List ℤ → Sheet
+given-uses operators tensors uses lent answer words =
     record {
       given = record { answer = lifetimesOf operators tensors uses (length lent); words = finalLifetimes operators tensors uses lent };
       wanted = record { answer = answer; words = words };
@@ -168,17 +168,17 @@ other-uses = one-use 0 0 reads ++ (one-use 0 1 writes ++ (one-use 0 1 modelOutpu
 abbrev seven-entries : List ℤ
 seven-entries = pos 7 ∷ pos 7 ∷ pos 7 ∷ four-entries
 
-abbrev life-sheets : List Sheet
-life-sheets =
-    lived 3 3 (input-use ++ other-uses) seven-entries (doneWith 0) (pos 0 ∷ pos 1 ∷ pos 0 ∷ pos 0 ∷ pos 1 ∷ pos 2 ∷ one-entry)
-    ∷ lived 3 3 other-uses seven-entries (refusedAt readBeforeWritten 0) seven-entries
+abbrev lifetime-sheets : List Sheet
+lifetime-sheets =
+    given-uses 3 3 (input-use ++ other-uses) seven-entries (doneWith 0) (pos 0 ∷ pos 1 ∷ pos 0 ∷ pos 0 ∷ pos 1 ∷ pos 2 ∷ one-entry)
+    ∷ given-uses 3 3 other-uses seven-entries (refusedAt readBeforeWritten 0) seven-entries
     ∷ []
 
 -- ---- the table
 
 -- Every starred sheet.
 abbrev pub sheets : List Sheet
-sheets = planner-sheets ++ (section-sheet ++ life-sheets)
+sheets = planner-sheets ++ (section-sheet ++ lifetime-sheets)
 
 -- The two columns are equal.
 pub sheets-hold : map (λ (s : Sheet). s .given) sheets ≡ map (λ (s : Sheet). s .wanted) sheets

@@ -146,6 +146,10 @@ module _ (p : ℕ → Bool) (n : ℕ) where
   pub some-found : (k : ℕ) → k < n → p k ≡ true → holdsBelow p n ≡ true
   some-found k l e = refuted _ (λ q. contrary e (none-holds q k l))
 
+-- Below 0 the test holds nowhere.
+pub holds-none : (p : ℕ → Bool) → holdsBelow p 0 ≡ false
+holds-none p = none-found p 0 (λ k l. absurd (omega arith))
+
 -- One index more.
 pub holds-more : (p : ℕ → Bool) (n : ℕ) → holdsBelow p (n + 1) ≡ holdsBelow p n || p n
 holds-more p n = same-test _ _ down (λ e. up (either (holdsBelow p n) (p n) e))

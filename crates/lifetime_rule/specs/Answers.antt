@@ -14,8 +14,9 @@ use Rattle.bounded.specs.Boolean.{neither, neither-holds}
 use Rattle.bounded.specs.Causes.{NoneHolds, AllRefuse, firstCause, follows-more, passed, refused-stands}
 use Rattle.bounded.specs.First.{firstIn, holdsBelow, none-holds, none-found}
 use Rattle.bounded.specs.Replaced.{replaced}
-use Rattle.lifetime_rule.specs.Lives.{unnamed, tooEarly, lifeWord}
-use Rattle.lifetime_rule.specs.Lifetimes.{outOfLimits, sizeCauses, useCauses, listCauses, lifeCauses, causes, sizesOf, listOf, livesOf, lifetimesOf, finalLifetimes}
+use Rattle.lifetime_rule.specs.GoodUses.{Natural, good-natural}
+use Rattle.lifetime_rule.specs.Lifetimes.{unnamed, tooEarly, lifetimeWord}
+use Rattle.lifetime_rule.specs.FromUses.{outOfLimits, sizeCauses, useCauses, listCauses, lifetimeCauses, causes, sizesOf, listOf, judgedOf, lifetimesOf, finalLifetimes}
 use Rattle.lifetime_rule.specs.Uses.{greatestOperators, greatestTensors, greatestUses, count, wholeUses, useAt, good, badUse}
 
 -- What lets a list, its numbers and a room pass the checks 1, 2 and 3.
@@ -80,8 +81,8 @@ module _ (operators tensors : ℕ) (u : List ℤ) (room : ℕ) where
 
 module _ (operators tensors : ℕ) (u : List ℤ) {t : ℕ} (lowest-tensor : t ≡ firstIn (unnamed operators u) 0 tensors) where
   -- The lowest tensor never named first,
-  pub name-refused : t < tensors → refusedAt tensorNeverNamed t ≡ livesOf operators tensors u
-  unfolding livesOf holdsBelow
+  pub name-refused : t < tensors → refusedAt tensorNeverNamed t ≡ judgedOf operators tensors u
+  unfolding judgedOf holdsBelow
   name-refused l = ap (refusedAt tensorNeverNamed) lowest-tensor ∙ rw (lt-ltb (firstIn (unnamed operators u) 0 tensors) tensors (omega (arith, lowest-tensor)), firstCause)
 
   module _ {k : ℕ} (lowest-use : k ≡ firstIn (tooEarly u) 0 (count u)) (named-all : tensors ≤ t) where
@@ -89,14 +90,14 @@ module _ (operators tensors : ℕ) (u : List ℤ) {t : ℕ} (lowest-tensor : t �
     none-unnamed = le-ltb (firstIn (unnamed operators u) 0 tensors) tensors (omega (arith, lowest-tensor))
 
     -- then the lowest use that reads too early,
-    pub read-refused : k < count u → refusedAt readBeforeWritten k ≡ livesOf operators tensors u
-    unfolding livesOf holdsBelow
+    pub read-refused : k < count u → refusedAt readBeforeWritten k ≡ judgedOf operators tensors u
+    unfolding judgedOf holdsBelow
     read-refused l = ap (refusedAt readBeforeWritten) lowest-use ∙ rw (none-unnamed, firstCause, lt-ltb (firstIn (tooEarly u) 0 (count u)) (count u) (omega (arith, lowest-use)), firstCause)
 
     -- and where there is none, both pass.
-    pub lives-passed : count u ≤ k → doneWith 0 ≡ livesOf operators tensors u
-    unfolding livesOf holdsBelow
-    lives-passed l = rw (none-unnamed, firstCause, le-ltb (firstIn (tooEarly u) 0 (count u)) (count u) (omega (arith, lowest-use)), firstCause)
+    pub judged-passed : count u ≤ k → doneWith 0 ≡ judgedOf operators tensors u
+    unfolding judgedOf holdsBelow
+    judged-passed l = rw (none-unnamed, firstCause, le-ltb (firstIn (tooEarly u) 0 (count u)) (count u) (omega (arith, lowest-use)), firstCause)
 
 -- ---- the order of all
 
@@ -133,6 +134,10 @@ module _ (operators tensors : ℕ) (u : List ℤ) (room : ℕ) where
   -- and the other way.
   uses-none : EachGood operators tensors u → NoneHolds (useCauses operators tensors u)
   uses-none g = (none-found (badUse operators tensors u) (count u) (λ k l. ap not (g .each k l)), tt)
+
+  -- Past them the words of every use are natural numbers.
+  pub natural-words : Sized operators tensors u room → EachGood operators tensors u → (k : ℕ) → k < count u → Natural u k
+  natural-words z g k l = good-natural operators tensors u k (z .few-operators) (z .few-tensors) (g .each k l)
 
   -- The checks 1, 2 and 3 pass: the lengths and numbers are as they must be.
   pub sizes-passed : sizesOf operators tensors u room .number ≡ 0 → Sized operators tensors u room
@@ -173,15 +178,15 @@ module _ (operators tensors : ℕ) (u : List ℤ) (room : ℕ) where
   -- A refusal of the four stands;
   pub list-stands : (listOf operators tensors u room .number ≡ 0 → ⊥) → listOf operators tensors u room ≡ lifetimesOf operators tensors u room
   unfolding listOf lifetimesOf
-  list-stands h = refused-stands numberOf (listCauses operators tensors u room) (lifeCauses operators tensors u) (doneWith 0) (doneWith 0) refl h
+  list-stands h = refused-stands numberOf (listCauses operators tensors u room) (lifetimeCauses operators tensors u) (doneWith 0) (doneWith 0) refl h
 
   -- past them the checks 20 and 21 decide.
-  pub lives-decide : Sized operators tensors u room → EachGood operators tensors u → livesOf operators tensors u ≡ lifetimesOf operators tensors u room
-  unfolding livesOf lifetimesOf
-  lives-decide z g =
+  pub judged-decides : Sized operators tensors u room → EachGood operators tensors u → judgedOf operators tensors u ≡ lifetimesOf operators tensors u room
+  unfolding judgedOf lifetimesOf
+  judged-decides z g =
       let s = sizes-none z in
       let n : NoneHolds (listCauses operators tensors u room) = (s .0, (s .1 .0, (s .1 .1 .0, uses-none g))) in
-      sym (follows-more (listCauses operators tensors u room) (lifeCauses operators tensors u) (doneWith 0) n)
+      sym (follows-more (listCauses operators tensors u room) (lifetimeCauses operators tensors u) (doneWith 0) n)
 
   -- What a done answer says: the lengths and numbers are as they must be, every use is good, every tensor is named, and no use reads too early.
   pub record Done : Type 0 where
@@ -207,7 +212,7 @@ module _ (operators tensors : ℕ) (u : List ℤ) (room : ℕ) where
 module _ (operators tensors : ℕ) (u lifetimes : List ℤ) where
   -- Done: the lives stand in the first entries.
   pub done-lifetimes : lifetimesOf operators tensors u (length lifetimes) .number ≡ 0
-      → finalLifetimes operators tensors u lifetimes ≡ replaced (lifeWord operators u) (tensors * 2) lifetimes
+      → finalLifetimes operators tensors u lifetimes ≡ replaced (lifetimeWord operators u) (tensors * 2) lifetimes
   unfolding finalLifetimes
   done-lifetimes e = rw (eq-eqb (lifetimesOf operators tensors u (length lifetimes) .number) 0 e, finalLifetimes)
 

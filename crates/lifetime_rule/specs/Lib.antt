@@ -1,8 +1,8 @@
 pub mod Uses
-pub mod Lives
 pub mod Lifetimes
+pub mod FromUses
 pub mod Answers
 pub mod GoodUses
 pub mod Naming
-pub mod SoundLives
+pub mod SoundLifetimes
 pub mod Outcomes

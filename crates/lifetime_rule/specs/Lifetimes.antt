@@ -1,74 +1,52 @@
--- The answer for an operator list, and the lifetimes that it leaves (document 01, "The desk's order of checks", Lives): "Order: 1, 2, 3, 5, 20, 21".
--- `room` is the length of the lent table of lifetimes.
-use Prim.Native.Nat.{ℕ, _*_}
-use mathlib.Core.Bool.{Bool, true, false, not, _||_}
-use mathlib.Core.List.{List, [], _∷_, _++_}
+-- Lives (document 01, "The desk's order of checks", Lives): "A life runs from the lowest to the highest operator that names the tensor by role 0 or 1;
+-- role 2 counts as naming by operator 0. Role 3 changes nothing. A read needs role 2 or a write by an earlier operator." Where a use stands in the list
+-- says nothing; an operator is earlier where its number is lower. The document's life is a lifetime here.
+use Prim.Native.Nat.{ℕ}
+use mathlib.Core.Bool.{Bool, not, _&&_, _||_}
+use mathlib.Core.List.{List}
 use lib.Dec.{ltb, eqb}
-use lib.IntN.{ℤ}
-use lib.ListN.{length}
-use Rattle.answer.specs.declared.Answer.{Answer}
-use Rattle.answer.specs.Answer as A
-use Rattle.bounded.specs.Causes.{Cause, _⇒_, firstCause}
+use lib.IntN.{ℤ, pos}
 use Rattle.bounded.specs.First.{firstIn, holdsBelow}
-use Rattle.bounded.specs.Replaced.{replaced}
-use Rattle.lifetime_rule.specs.Uses.{greatestOperators, greatestTensors, greatestUses, count, wholeUses, badUse}
-use Rattle.lifetime_rule.specs.Lives.{unnamed, tooEarly, lifeWord}
+use Rattle.bounded.specs.Last.{lastIn}
+use Rattle.bounded.specs.TwoEach.{twoEach}
+use Rattle.lifetime_rule.specs.Uses.{reads, writes, modelInput, count, useAt}
+use Rattle.lifetime_rule.specs.declared.Use.{Use}
 
--- "too many rows, operators or tensors; no operator".
-unfoldable pub outOfLimits : ℕ → ℕ → List ℤ → Bool
-outOfLimits operators tensors u =
-    (ltb greatestUses (count u) || ltb greatestOperators operators) || (ltb greatestTensors tensors || eqb operators 0)
+-- The use names tensor t by operator m: by role 0 or 1 that is its own operator, and "role 2 counts as naming by operator 0".
+unfoldable pub names : Use → ℕ → ℕ → Bool
+names x t m =
+    eqb (x .tensor .0) t
+    && (((eqb (x .role) reads || eqb (x .role) writes) && eqb (x .operator .0) m)
+    || (eqb (x .role) modelInput && eqb 0 m))
 
--- 1, 2 and 3. Two entries a tensor are asked for.
-abbrev pub sizeCauses : ℕ → ℕ → List ℤ → ℕ → List (Cause Answer)
-sizeCauses operators tensors u room =
-    (not (wholeUses u) ⇒ A.refused A.notWholeRows)
-    ∷ (outOfLimits operators tensors u ⇒ A.refused A.tooMany)
-    ∷ (ltb room (tensors * 2) ⇒ A.refused A.tableTooShort)
-    ∷ []
+-- Operator m names tensor t in some use.
+unfoldable pub named : List ℤ → ℕ → ℕ → Bool
+named u t m = holdsBelow (λ k. names (useAt u k) t m) (count u)
 
--- 5: the lowest bad use.
-abbrev pub useCauses : ℕ → ℕ → List ℤ → List (Cause Answer)
-useCauses operators tensors u =
-    (holdsBelow (badUse operators tensors u) (count u) ⇒ A.refusedAt A.badRow (firstIn (badUse operators tensors u) 0 (count u))) ∷ []
+-- "A life runs from the lowest
+unfoldable pub firstOf : ℕ → List ℤ → ℕ → ℕ
+firstOf operators u t = firstIn (named u t) 0 operators
 
--- 1, 2, 3, 5.
-abbrev pub listCauses : ℕ → ℕ → List ℤ → ℕ → List (Cause Answer)
-listCauses operators tensors u room = sizeCauses operators tensors u room ++ useCauses operators tensors u
+-- to the highest operator that names the tensor".
+unfoldable pub lastOf : ℕ → List ℤ → ℕ → ℕ
+lastOf operators u t = lastIn (named u t) operators
 
--- 20: the lowest tensor never named.
-abbrev pub nameCauses : ℕ → ℕ → List ℤ → List (Cause Answer)
-nameCauses operators tensors u = (holdsBelow (unnamed operators u) tensors ⇒ A.refusedAt A.tensorNeverNamed (firstIn (unnamed operators u) 0 tensors)) ∷ []
+-- "tensor never named": by no operator. "a tensor with only role 3 is unnamed".
+unfoldable pub unnamed : ℕ → List ℤ → ℕ → Bool
+unnamed operators u t = not (holdsBelow (named u t) operators)
 
--- 21: the lowest use that reads too early.
-abbrev pub readCauses : List ℤ → List (Cause Answer)
-readCauses u = (holdsBelow (tooEarly u) (count u) ⇒ A.refusedAt A.readBeforeWritten (firstIn (tooEarly u) 0 (count u))) ∷ []
+-- The use lets operator m read tensor t: "role 2 or a write by an earlier operator".
+unfoldable pub lets : Use → ℕ → ℕ → Bool
+lets x t m = eqb (x .tensor .0) t && (eqb (x .role) modelInput || (eqb (x .role) writes && ltb (x .operator .0) m))
 
--- 20, 21.
-abbrev pub lifeCauses : ℕ → ℕ → List ℤ → List (Cause Answer)
-lifeCauses operators tensors u = nameCauses operators tensors u ++ readCauses u
+-- Operator m may read tensor t.
+unfoldable pub readable : List ℤ → ℕ → ℕ → Bool
+readable u t m = holdsBelow (λ k. lets (useAt u k) t m) (count u)
 
--- 1, 2, 3, 5, 20, 21.
-abbrev pub causes : ℕ → ℕ → List ℤ → ℕ → List (Cause Answer)
-causes operators tensors u room = listCauses operators tensors u room ++ lifeCauses operators tensors u
+-- "read before written": the use reads a tensor that its operator may not read.
+unfoldable pub tooEarly : List ℤ → ℕ → Bool
+tooEarly u k = eqb (useAt u k .role) reads && not (readable u (useAt u k .tensor .0) (useAt u k .operator .0))
 
--- The answer of the checks 1, 2 and 3 alone.
-unfoldable pub sizesOf : ℕ → ℕ → List ℤ → ℕ → Answer
-sizesOf operators tensors u room = firstCause (sizeCauses operators tensors u room) (A.doneWith 0)
-
--- The answer of the checks 1, 2, 3 and 5 alone.
-unfoldable pub listOf : ℕ → ℕ → List ℤ → ℕ → Answer
-listOf operators tensors u room = firstCause (listCauses operators tensors u room) (A.doneWith 0)
-
--- The answer of the checks 20 and 21 alone.
-unfoldable pub livesOf : ℕ → ℕ → List ℤ → Answer
-livesOf operators tensors u = firstCause (lifeCauses operators tensors u) (A.doneWith 0)
-
--- The answer: the first cause that holds, else done, with all zeros.
-unfoldable pub lifetimesOf : ℕ → ℕ → List ℤ → ℕ → Answer
-lifetimesOf operators tensors u room = firstCause (causes operators tensors u room) (A.doneWith 0)
-
--- The lifetimes in the end: where the answer is done, two entries for each tensor, and the rest stays; on every refusal all stays.
-unfoldable pub finalLifetimes : ℕ → ℕ → List ℤ → List ℤ → List ℤ
-finalLifetimes operators tensors u lifetimes =
-    elim (eqb (lifetimesOf operators tensors u (length lifetimes) .number) A.done) [ true ↦ replaced (lifeWord operators u) (tensors * 2) lifetimes | false ↦ lifetimes ]
+-- "Answer: first and last for each tensor": entries 2t and 2t + 1 of the lifetimes are tensor t's.
+abbrev pub lifetimeWord : ℕ → List ℤ → ℕ → ℤ
+lifetimeWord operators u = twoEach (λ t. pos (firstOf operators u t)) (λ t. pos (lastOf operators u t))

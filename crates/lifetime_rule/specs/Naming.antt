@@ -13,7 +13,7 @@ use Rattle.bounded.specs.First.{firstIn, found, some-found, none-holds}
 use Rattle.words.specs.Words.{natural}
 use Rattle.words.specs.WordOrders.{lt-of, of-lt}
 use Rattle.lifetime_rule.specs.GoodUses.{Natural}
-use Rattle.lifetime_rule.specs.Lives.{names, named, lets, readable, tooEarly}
+use Rattle.lifetime_rule.specs.Lifetimes.{names, named, lets, readable, tooEarly}
 use Rattle.lifetime_rule.specs.Uses.{reads, writes, modelInput, count, word, useAt}
 
 -- Use k names tensor t by operator m: it reads or writes it there, or the tensor is a model input, which "counts as naming by operator 0".

@@ -14,10 +14,10 @@ use Rattle.bounded.specs.Boolean.{contrary, lt-or-le, same-or-not, refuted}
 use Rattle.bounded.specs.Causes.{firstCause}
 use Rattle.bounded.specs.First.{holdsBelow, found, none-holds}
 use Rattle.bounded.specs.Lowest.{Lowest, lowest-of}
-use Rattle.lifetime_rule.specs.Answers.{Sized, EachGood, good-of-none, limits-say, limits-of, name-refused, read-refused, lives-passed, use-refused, list-stands, lives-decide}
-use Rattle.lifetime_rule.specs.GoodUses.{GoodUse, Natural, good-natural, good-says, good-of}
-use Rattle.lifetime_rule.specs.Lives.{named, unnamed, tooEarly}
-use Rattle.lifetime_rule.specs.Lifetimes.{outOfLimits, lifetimesOf}
+use Rattle.lifetime_rule.specs.Answers.{Sized, EachGood, good-of-none, natural-words, limits-say, limits-of, name-refused, read-refused, judged-passed, use-refused, list-stands, judged-decides}
+use Rattle.lifetime_rule.specs.GoodUses.{GoodUse, Natural, good-says, good-of}
+use Rattle.lifetime_rule.specs.Lifetimes.{named, unnamed, tooEarly}
+use Rattle.lifetime_rule.specs.FromUses.{outOfLimits, lifetimesOf}
 use Rattle.lifetime_rule.specs.Naming.{Named, TooEarly, named-says, named-of, early-says, early-of}
 use Rattle.lifetime_rule.specs.Uses.{greatestOperators, greatestTensors, greatestUses, count, badUse}
 
@@ -81,30 +81,30 @@ module _ (operators tensors : ℕ) (u : List ℤ) (room : ℕ) where
       good-uses : (k : ℕ) → k < count u → GoodUse operators tensors u k
       good-uses k l = good-says operators tensors u k (z .few-operators) (z .few-tensors) (g .each k l)
 
-      natural-words : (k : ℕ) → k < count u → Natural u k
-      natural-words k l = good-natural operators tensors u k (z .few-operators) (z .few-tensors) (g .each k l)
+      all-natural : (k : ℕ) → k < count u → Natural u k
+      all-natural = natural-words operators tensors u room z g
 
       unnamed-says : (t : ℕ) → unnamed operators u t ≡ true → NeverNamed t
       unfolding unnamed
-      unnamed-says t e m l n = contrary (named-of u natural-words t m n) (none-holds (named u t) operators (not-true _ e) m l)
+      unnamed-says t e m l n = contrary (named-of u all-natural t m n) (none-holds (named u t) operators (not-true _ e) m l)
 
       unnamed-of : (t : ℕ) → NeverNamed t → unnamed operators u t ≡ true
       unfolding unnamed
-      unnamed-of t f = refuted _ (λ e. let x = found (named u t) operators (not-false _ e) in f _ (x .0) (named-says u natural-words t _ (x .1)))
+      unnamed-of t f = refuted _ (λ e. let x = found (named u t) operators (not-false _ e) in f _ (x .0) (named-says u all-natural t _ (x .1)))
 
-      lives-outcome : (b : Bool) → holdsBelow (unnamed operators u) tensors ≡ b → (c : Bool) → holdsBelow (tooEarly u) (count u) ≡ c → Outcome
+      judged-outcome : (b : Bool) → holdsBelow (unnamed operators u) tensors ≡ b → (c : Bool) → holdsBelow (tooEarly u) (count u) ≡ c → Outcome
       unfolding holdsBelow
-      lives-outcome true e c f =
+      judged-outcome true e c f =
           never-named _ z good-uses (lowest-of (unnamed operators u) tensors (λ t l. unnamed-says t) (λ t l. unnamed-of t) e)
-          (sym (name-refused operators tensors u refl (ltb-true _ _ e) ∙ lives-decide operators tensors u room z g))
-      lives-outcome false e true f =
+          (sym (name-refused operators tensors u refl (ltb-true _ _ e) ∙ judged-decides operators tensors u room z g))
+      judged-outcome false e true f =
           too-early _ z good-uses (λ t l n. contrary (unnamed-of t n) (none-holds (unnamed operators u) tensors e t l))
-          (lowest-of (tooEarly u) (count u) (early-says u natural-words) (early-of u natural-words) f)
-          (sym (read-refused operators tensors u refl refl (ltb-false _ _ e) (ltb-true _ _ f) ∙ lives-decide operators tensors u room z g))
-      lives-outcome false e false f =
+          (lowest-of (tooEarly u) (count u) (early-says u all-natural) (early-of u all-natural) f)
+          (sym (read-refused operators tensors u refl refl (ltb-false _ _ e) (ltb-true _ _ f) ∙ judged-decides operators tensors u room z g))
+      judged-outcome false e false f =
           done z good-uses (λ t l n. contrary (unnamed-of t n) (none-holds (unnamed operators u) tensors e t l))
-          (λ k l x. contrary (early-of u natural-words k l x) (none-holds (tooEarly u) (count u) f k l))
-          (sym (lives-passed operators tensors u refl refl (ltb-false _ _ e) (ltb-false _ _ f) ∙ lives-decide operators tensors u room z g))
+          (λ k l x. contrary (early-of u all-natural k l x) (none-holds (tooEarly u) (count u) f k l))
+          (sym (judged-passed operators tensors u refl refl (ltb-false _ _ e) (ltb-false _ _ f) ∙ judged-decides operators tensors u room z g))
 
     uses-outcome : (b : Bool) → holdsBelow (badUse operators tensors u) (count u) ≡ b → Outcome
     unfolding holdsBelow
@@ -113,7 +113,7 @@ module _ (operators tensors : ℕ) (u : List ℤ) (room : ℕ) where
         bad-use _ z (lowest-of (badUse operators tensors u) (count u) (λ k l. bad-says k) (λ k l. bad-of k) e)
         (sym (told ∙ list-stands operators tensors u room (λ n. omega (arith, ap numberOf told, n))))
     uses-outcome false e =
-        lives-outcome (good-of-none operators tensors u room e)
+        judged-outcome (good-of-none operators tensors u room e)
         (holdsBelow (unnamed operators u) tensors) refl (holdsBelow (tooEarly u) (count u)) refl
 
   -- So it is answered.

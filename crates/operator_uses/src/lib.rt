@@ -3,7 +3,7 @@
 ghost use mathlib.Core.Path.{_≡_};
 ghost use Rattle.bounded.specs.First.{firstIn};
 ghost use Rattle.lifetime_rule.specs.Uses.{count as countOf, useAt, good, badUse};
-ghost use Rattle.lifetime_rule.specs.Lifetimes.{sizesOf, listOf};
+ghost use Rattle.lifetime_rule.specs.FromUses.{sizesOf, listOf};
 use answer::Answer;
 use lifetime_rule::Use;
 use units::Moment;
@@ -18,7 +18,7 @@ pub const GREATEST_OPERATORS: u32 = 1024;
 // At most this many tensors.
 pub const GREATEST_TENSORS: usize = 256;
 // The entries of a life: its first moment and its last.
-pub const LIFE_WORDS: usize = 2;
+pub const LIFETIME_WORDS: usize = 2;
 // The roles: the operator reads the tensor or writes it; or the tensor goes into the model or comes out of it.
 pub const READS: u32 = 0;
 
@@ -85,7 +85,7 @@ fn check_sizes(operators: u32, tensors: u32, uses: &[i32], room: usize) -> Answe
     let ragged = uses.len() % USE_WORDS != 0;
     let many = (GREATEST_USES < count) | (GREATEST_OPERATORS < operators);
     let out_of_limits = many | ((GREATEST_TENSORS < tensors as usize) | (operators == 0));
-    let too_short = room < tensors as usize * LIFE_WORDS;
+    let too_short = room < tensors as usize * LIFETIME_WORDS;
     if ragged {
         return Answer::refused(Answer::NOT_WHOLE_ROWS);
     }

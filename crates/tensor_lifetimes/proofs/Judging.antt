@@ -15,12 +15,12 @@ use Rattle.bounded.specs.Replaced.{replaced, replaced-same}
 use Rattle.bounded.specs.TwoEach.{two-same}
 use Rattle.lifetime_rule.specs.Answers.{EachGood}
 use Rattle.lifetime_rule.specs.GoodUses.{tests}
-use Rattle.lifetime_rule.specs.Lives.{named, firstOf, lastOf, unnamed, lets, readable, tooEarly, lifeWord}
+use Rattle.lifetime_rule.specs.Lifetimes.{named, firstOf, lastOf, unnamed, lets, readable, tooEarly, lifetimeWord}
 use Rattle.lifetime_rule.specs.Uses.{reads, writes, modelInput, greatestOperators, greatestTensors, count, useAt, good}
 use Rattle.lifetime_rule.specs.declared.Use.{Use}
-use Rattle.tensor_lifetimes.specs.Gathered.{namedSoFar, readableSoFar, lifeSoFar, lifeIn, HoldsLives, FewTensors, StorableLives, unnamedIn, earlyIn, storedWord}
-use Rattle.tensor_lifetimes.proofs.Gathering.{known-high}
-use Rattle.tensor_lifetimes.specs.declared.Life.{Life}
+use Rattle.tensor_lifetimes.specs.Gathered.{namedSoFar, readableSoFar, lifetimeSoFar, lifetimeIn, HoldsLifetimes, FewTensors, StorableLifetimes, unnamedIn, earlyIn, storedWord}
+use Rattle.tensor_lifetimes.proofs.OneUse.{known-high}
+use Rattle.tensor_lifetimes.specs.declared.Lifetime.{Lifetime}
 
 -- A number is at least another exactly where it is not below it.
 not-below : (a b : ℕ) → leb b a ≡ not (ltb a b)
@@ -59,51 +59,51 @@ readable-from operators u t m l = go (lt-or-le m (firstIn (readable u t) 0 opera
     go (inr h) = le-ltb _ _ h ∙ sym (ap not (readable-later u t _ m h (first-is (readable u t) 0 operators zero-le .at (omega arith))))
 
 -- The test of a use that reads too early, on the use that was read.
-pub early-test : (u : List ℤ) (lives : List Life) (k : ℕ) {x : Use} → x ≡ useAt u k
-    → earlyIn u lives k ≡ eqb (x .role) reads && ltb (x .operator .0) (lifeIn lives (x .tensor .0) .readable .0)
-early-test u lives k e = ap (λ (x : Use). eqb (x .role) reads && ltb (x .operator .0) (lifeIn lives (x .tensor .0) .readable .0)) (sym e)
+pub early-test : (u : List ℤ) (gathered : List Lifetime) (k : ℕ) {x : Use} → x ≡ useAt u k
+    → earlyIn u gathered k ≡ eqb (x .role) reads && ltb (x .operator .0) (lifetimeIn gathered (x .tensor .0) .readable .0)
+early-test u gathered k e = ap (λ (x : Use). eqb (x .role) reads && ltb (x .operator .0) (lifetimeIn gathered (x .tensor .0) .readable .0)) (sym e)
 
-module _ {operators : ℕ} {u : List ℤ} {lives : List Life} (h : HoldsLives operators u lives) where
+module _ {operators : ℕ} {u : List ℤ} {gathered : List Lifetime} (h : HoldsLifetimes operators u gathered) where
   -- No operator names the tensor.
-  pub unnamed-is : (t : ℕ) → t < greatestTensors → unnamedIn operators lives t ≡ unnamed operators u t
-  unfolding unnamed holdsBelow lifeSoFar namedSoFar named
-  unnamed-is t l = ap (λ (x : Life). leb operators (x .first .0)) (h .each t l) ∙ not-below (firstIn (named u t) 0 operators) operators
+  pub unnamed-is : (t : ℕ) → t < greatestTensors → unnamedIn operators gathered t ≡ unnamed operators u t
+  unfolding unnamed holdsBelow lifetimeSoFar namedSoFar named
+  unnamed-is t l = ap (λ (x : Lifetime). leb operators (x .first .0)) (h .each t l) ∙ not-below (firstIn (named u t) 0 operators) operators
 
   -- The use reads too early.
-  pub early-is : (tensors k : ℕ) → tensors ≤ greatestTensors → good operators tensors (useAt u k) ≡ true → earlyIn u lives k ≡ tooEarly u k
-  unfolding tooEarly lifeSoFar readableSoFar readable
+  pub early-is : (tensors k : ℕ) → tensors ≤ greatestTensors → good operators tensors (useAt u k) ≡ true → earlyIn u gathered k ≡ tooEarly u k
+  unfolding tooEarly lifetimeSoFar readableSoFar readable
   early-is tensors k few e =
       let x = tests operators tensors (useAt u k) e in
       ap (λ (b : Bool). eqb (useAt u k .role) reads && b)
-      (ap (λ (y : Life). ltb (useAt u k .operator .0) (y .readable .0)) (h .each (useAt u k .tensor .0) (omega (arith, x .tensor)))
+      (ap (λ (y : Lifetime). ltb (useAt u k .operator .0) (y .readable .0)) (h .each (useAt u k .tensor .0) (omega (arith, x .tensor)))
       ∙ readable-from operators u (useAt u k .tensor .0) (useAt u k .operator .0) (x .operator))
 
   -- The lowest tensor never named by the array is the lowest never named,
-  pub lowest-unnamed-is : (tensors : ℕ) → tensors ≤ greatestTensors → firstIn (unnamedIn operators lives) 0 tensors ≡ firstIn (unnamed operators u) 0 tensors
+  pub lowest-unnamed-is : (tensors : ℕ) → tensors ≤ greatestTensors → firstIn (unnamedIn operators gathered) 0 tensors ≡ firstIn (unnamed operators u) 0 tensors
   lowest-unnamed-is tensors few = first-same _ _ 0 tensors (λ t z l. unnamed-is t (omega arith))
 
   -- and so for the uses that read too early.
-  pub lowest-early-is : (tensors : ℕ) → tensors ≤ greatestTensors → EachGood operators tensors u → firstIn (earlyIn u lives) 0 (count u) ≡ firstIn (tooEarly u) 0 (count u)
+  pub lowest-early-is : (tensors : ℕ) → tensors ≤ greatestTensors → EachGood operators tensors u → firstIn (earlyIn u gathered) 0 (count u) ≡ firstIn (tooEarly u) 0 (count u)
   lowest-early-is tensors few g = first-same _ _ 0 (count u) (λ k z l. early-is tensors k few (g .each k l))
 
   -- The lives of the array, stored, are the lives.
-  pub stored-is : (tensors : ℕ) (lifetimes : List ℤ) → tensors ≤ greatestTensors → replaced (storedWord lives) (tensors * 2) lifetimes ≡ replaced (lifeWord operators u) (tensors * 2) lifetimes
-  unfolding lifeSoFar namedSoFar firstOf lastOf named
+  pub stored-is : (tensors : ℕ) (lifetimes : List ℤ) → tensors ≤ greatestTensors → replaced (storedWord gathered) (tensors * 2) lifetimes ≡ replaced (lifetimeWord operators u) (tensors * 2) lifetimes
+  unfolding lifetimeSoFar namedSoFar firstOf lastOf named
   stored-is tensors lifetimes few =
-      replaced-same (storedWord lives) (lifeWord operators u) (tensors * 2) lifetimes
-      (two-same _ _ _ _ tensors (λ t l. ap (λ (x : Life). pos (x .first .0)) (h .each t (omega arith)))
-      (λ t l. ap (λ (x : Life). pos (x .end .0 - 1)) (h .each t (omega arith)) ∙ ap pos (last-before-end (named u t) operators)))
+      replaced-same (storedWord gathered) (lifetimeWord operators u) (tensors * 2) lifetimes
+      (two-same _ _ _ _ tensors (λ t l. ap (λ (x : Lifetime). pos (x .first .0)) (h .each t (omega arith)))
+      (λ t l. ap (λ (x : Lifetime). pos (x .end .0 - 1)) (h .each t (omega arith)) ∙ ap pos (last-before-end (named u t) operators)))
 
   -- They can be stored, where every tensor is named.
-  pub storable : (tensors : ℕ) → tensors ≤ greatestTensors → operators ≤ greatestOperators → ((t : ℕ) → t < tensors → unnamed operators u t ≡ false) → StorableLives tensors lives
-  unfolding lifeSoFar namedSoFar unnamed named
+  pub storable : (tensors : ℕ) → tensors ≤ greatestTensors → operators ≤ greatestOperators → ((t : ℕ) → t < tensors → unnamed operators u t ≡ false) → StorableLifetimes tensors gathered
+  unfolding lifetimeSoFar namedSoFar unnamed named
   storable tensors few low all =
       record {
         ended = λ t l.
             let x = found (named u t) operators (not-false _ (all t l)) in
-            omega (arith, ap (λ (y : Life). y .end .0) (h .each t (omega arith)), before-end (named u t) operators _ (x .0) (x .1));
-        first-small = λ t l. omega (arith, ap (λ (x : Life). x .first .0) (h .each t (omega arith)), known-high operators u (count u) t .0);
-        end-small = λ t l. omega (arith, ap (λ (x : Life). x .end .0) (h .each t (omega arith)), known-high operators u (count u) t .1);
+            omega (arith, ap (λ (y : Lifetime). y .end .0) (h .each t (omega arith)), before-end (named u t) operators _ (x .0) (x .1));
+        first-small = λ t l. omega (arith, ap (λ (x : Lifetime). x .first .0) (h .each t (omega arith)), known-high operators u (count u) t .0);
+        end-small = λ t l. omega (arith, ap (λ (x : Lifetime). x .end .0) (h .each t (omega arith)), known-high operators u (count u) t .1);
       }
 
 -- Every use of a good list names a tensor within the limit.

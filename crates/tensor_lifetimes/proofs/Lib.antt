@@ -1,2 +1,3 @@
+pub mod OneUse
 pub mod Gathering
 pub mod Judging

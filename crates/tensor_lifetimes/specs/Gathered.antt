@@ -10,10 +10,10 @@ use Rattle.bounded.specs.First.{firstIn, holdsBelow}
 use Rattle.bounded.specs.Last.{endIn}
 use Rattle.bounded.specs.TwoEach.{twoEach}
 use Rattle.lifetime_rule.specs.Answers.{EachGood}
-use Rattle.lifetime_rule.specs.Lives.{names, lets}
+use Rattle.lifetime_rule.specs.Lifetimes.{names, lets}
 use Rattle.lifetime_rule.specs.Uses.{reads, writes, modelInput, greatestOperators, greatestTensors, count, useAt}
 use Rattle.lifetime_rule.specs.declared.Use.{Use}
-use Rattle.tensor_lifetimes.specs.declared.Life.{Life}
+use Rattle.tensor_lifetimes.specs.declared.Lifetime.{Lifetime}
 
 -- Operator m names tensor t in one of the first j uses.
 unfoldable pub namedSoFar : List ℤ → ℕ → ℕ → ℕ → Bool
@@ -24,8 +24,8 @@ unfoldable pub readableSoFar : List ℤ → ℕ → ℕ → ℕ → Bool
 readableSoFar u j t m = holdsBelow (λ k. lets (useAt u k) t m) j
 
 -- What the first j uses say of tensor t.
-unfoldable pub lifeSoFar : ℕ → List ℤ → ℕ → ℕ → Life
-lifeSoFar operators u j t =
+unfoldable pub lifetimeSoFar : ℕ → List ℤ → ℕ → ℕ → Lifetime
+lifetimeSoFar operators u j t =
     record {
       first = record { 0 = firstIn (namedSoFar u j t) 0 operators };
       end = record { 0 = endIn (namedSoFar u j t) operators };
@@ -33,16 +33,16 @@ lifeSoFar operators u j t =
     }
 
 -- What is known of a tensor before any use.
-abbrev pub noLife : ℕ → Life
-noLife operators = record { first = record { 0 = operators }; end = record { 0 = 0 }; readable = record { 0 = operators } }
+abbrev pub noLifetime : ℕ → Lifetime
+noLifetime operators = record { first = record { 0 = operators }; end = record { 0 = 0 }; readable = record { 0 = operators } }
 
 -- The lowest operator that may read a tensor, with one use of it more.
 unfoldable pub readableWith : ℕ → Use → ℕ
 readableWith r x = elim (eqb (x .role) modelInput) [ true ↦ 0 | false ↦ elim (eqb (x .role) writes) [ true ↦ min r (x .operator .0 + 1) | false ↦ r ] ]
 
 -- What is known of a tensor with one use of it more.
-unfoldable pub lifeWith : Life → Use → Life
-lifeWith l x =
+unfoldable pub lifetimeWith : Lifetime → Use → Lifetime
+lifetimeWith l x =
     elim (ltb modelInput (x .role)) [
       | true ↦ l
       | false ↦ record {
@@ -53,8 +53,8 @@ lifeWith l x =
     ]
 
 -- The life of a tensor in an array; past its end, one of zeros.
-abbrev pub lifeIn : List Life → ℕ → Life
-lifeIn lives t = getD lives t (noLife 0)
+abbrev pub lifetimeIn : List Lifetime → ℕ → Lifetime
+lifetimeIn gathered t = getD gathered t (noLifetime 0)
 
 -- A list of good uses, for some number of tensors within the limit.
 pub record GoodList (operators : ℕ) (u : List ℤ) : Type 0 where
@@ -64,27 +64,27 @@ pub record GoodList (operators : ℕ) (u : List ℤ) : Type 0 where
   pub uses-good : EachGood operators tensors u
 
 -- The array has what the whole list says of each tensor.
-pub record HoldsLives (operators : ℕ) (u : List ℤ) (lives : List Life) : Type 0 where
-  pub each : (t : ℕ) → t < greatestTensors → lifeIn lives t ≡ lifeSoFar operators u (count u) t
+pub record HoldsLifetimes (operators : ℕ) (u : List ℤ) (gathered : List Lifetime) : Type 0 where
+  pub each : (t : ℕ) → t < greatestTensors → lifetimeIn gathered t ≡ lifetimeSoFar operators u (count u) t
 
 -- Every use names a tensor within the limit.
 pub record FewTensors (u : List ℤ) : Type 0 where
   pub each : (k : ℕ) → k < count u → useAt u k .tensor .0 < greatestTensors
 
 -- The lives of so many tensors can be stored: each has a last moment, and the moments are signed words.
-pub record StorableLives (tensors : ℕ) (lives : List Life) : Type 0 where
-  pub ended : (t : ℕ) → t < tensors → 0 < lifeIn lives t .end .0
-  pub first-small : (t : ℕ) → t < tensors → lifeIn lives t .first .0 ≤ greatestOperators
-  pub end-small : (t : ℕ) → t < tensors → lifeIn lives t .end .0 ≤ greatestOperators
+pub record StorableLifetimes (tensors : ℕ) (gathered : List Lifetime) : Type 0 where
+  pub ended : (t : ℕ) → t < tensors → 0 < lifetimeIn gathered t .end .0
+  pub first-small : (t : ℕ) → t < tensors → lifetimeIn gathered t .first .0 ≤ greatestOperators
+  pub end-small : (t : ℕ) → t < tensors → lifetimeIn gathered t .end .0 ≤ greatestOperators
 
 -- By the array, no operator names the tensor.
-abbrev pub unnamedIn : ℕ → List Life → ℕ → Bool
-unnamedIn operators lives t = leb operators (lifeIn lives t .first .0)
+abbrev pub unnamedIn : ℕ → List Lifetime → ℕ → Bool
+unnamedIn operators gathered t = leb operators (lifetimeIn gathered t .first .0)
 
 -- By the array, the use reads a tensor that its operator may not read.
-abbrev pub earlyIn : List ℤ → List Life → ℕ → Bool
-earlyIn u lives k = eqb (useAt u k .role) reads && ltb (useAt u k .operator .0) (lifeIn lives (useAt u k .tensor .0) .readable .0)
+abbrev pub earlyIn : List ℤ → List Lifetime → ℕ → Bool
+earlyIn u gathered k = eqb (useAt u k .role) reads && ltb (useAt u k .operator .0) (lifetimeIn gathered (useAt u k .tensor .0) .readable .0)
 
 -- The entries of a table of lifetimes, from the array.
-abbrev pub storedWord : List Life → ℕ → ℤ
-storedWord lives = twoEach (λ t. pos (lifeIn lives t .first .0)) (λ t. pos (lifeIn lives t .end .0 - 1))
+abbrev pub storedWord : List Lifetime → ℕ → ℤ
+storedWord gathered = twoEach (λ t. pos (lifetimeIn gathered t .first .0)) (λ t. pos (lifetimeIn gathered t .end .0 - 1))

@@ -1,19 +1,19 @@
 // Lives from an operator list (document 01, "The desk's order of checks", Lives): one pass over the uses gathers what they say of each tensor, and one
-// more finds the lowest use that reads too early.
+// more finds the lowest use that reads too early. The document's life is a lifetime here.
 mod gather;
 
-ghost use Prim.Native.Nat.{_*_, _<_, _≤_};
+ghost use Prim.Native.Nat.{_*_, _≤_};
 ghost use mathlib.Core.Path.{_≡_};
 ghost use lib.ListN.{length};
 ghost use Rattle.bounded.specs.First.{firstIn};
 ghost use Rattle.bounded.specs.Replaced.{replaced};
 ghost use Rattle.lifetime_rule.specs.Answers.{EachGood};
-ghost use Rattle.lifetime_rule.specs.Lifetimes.{livesOf, lifetimesOf, finalLifetimes};
+ghost use Rattle.lifetime_rule.specs.FromUses.{judgedOf, lifetimesOf, finalLifetimes};
 ghost use Rattle.lifetime_rule.specs.Uses.{count as countOf, greatestTensors, greatestUses};
-ghost use Rattle.tensor_lifetimes.specs.Gathered.{HoldsLives, StorableLives, FewTensors, unnamedIn, earlyIn, storedWord};
+ghost use Rattle.tensor_lifetimes.specs.Gathered.{HoldsLifetimes, StorableLifetimes, FewTensors, unnamedIn, earlyIn, storedWord};
 use answer::Answer;
 use operator_uses::GREATEST_TENSORS;
-use operator_uses::LIFE_WORDS;
+use operator_uses::LIFETIME_WORDS;
 use operator_uses::READS;
 use operator_uses::USE_WORDS;
 use units::Moment;
@@ -21,23 +21,23 @@ use units::Tensor;
 
 // What the uses say of a tensor: the lowest operator that names it, one past the highest that does, and the lowest that may read it. Where there is none,
 // the number of operators stands for a lowest one, and the end is 0.
-pub struct Life {
+pub struct Lifetime {
     pub first: Moment,
     pub end: Moment,
     pub readable: Moment,
 }
 
 // The lowest tensor that no operator names, else the number of tensors.
-fn lowest_unnamed(operators: u32, tensors: u32, lives: [Life; GREATEST_TENSORS]) -> Tensor
+fn lowest_unnamed(operators: u32, tensors: u32, gathered: [Lifetime; GREATEST_TENSORS]) -> Tensor
     requires { ⌜ tensors ≤ greatestTensors ⌝ }
-    ensures { λ r. ⌜ r .0 ≡ firstIn (unnamedIn operators lives) 0 tensors ⌝ }
+    ensures { λ r. ⌜ r .0 ≡ firstIn (unnamedIn operators gathered) 0 tensors ⌝ }
 {
     let n = tensors as usize;
     let mut tensor = Tensor(0);
     while tensor.0 < n {
         let at = tensor.0;
-        let life = lives[at];
-        if operators <= life.first.0 {
+        let lifetime = gathered[at];
+        if operators <= lifetime.first.0 {
             return tensor;
         }
         tensor = Tensor(at + 1);
@@ -46,17 +46,17 @@ fn lowest_unnamed(operators: u32, tensors: u32, lives: [Life; GREATEST_TENSORS])
 }
 
 // The lowest use that reads a tensor before it may be read, else the number of uses.
-fn lowest_early(uses: &[i32], lives: [Life; GREATEST_TENSORS]) -> usize
+fn lowest_early(uses: &[i32], gathered: [Lifetime; GREATEST_TENSORS]) -> usize
     requires { ⌜ FewTensors (now uses) ⌝ }
-    ensures { λ r. ⌜ r ≡ firstIn (earlyIn (now (uses .entry)) lives) 0 (countOf (now (uses .entry))) ⌝ }
+    ensures { λ r. ⌜ r ≡ firstIn (earlyIn (now (uses .entry)) gathered) 0 (countOf (now (uses .entry))) ⌝ }
 {
     let n = uses.len() / USE_WORDS;
     let mut k = 0;
     while k < n {
         let usage = operator_uses::use_at(uses, k);
         let at = usage.tensor.0;
-        let life = lives[at];
-        if (usage.role == READS) & (usage.operator.0 < life.readable.0) {
+        let lifetime = gathered[at];
+        if (usage.role == READS) & (usage.operator.0 < lifetime.readable.0) {
             return k;
         }
         k += 1;
@@ -65,14 +65,19 @@ fn lowest_early(uses: &[i32], lives: [Life; GREATEST_TENSORS]) -> usize
 }
 
 // The checks 20 and 21: the tensors that no operator names, and the uses that read too early.
-fn judge(operators: u32, tensors: u32, uses: &[i32], lives: [Life; GREATEST_TENSORS]) -> Answer
+fn judge(
+    operators: u32,
+    tensors: u32,
+    uses: &[i32],
+    gathered: [Lifetime; GREATEST_TENSORS],
+) -> Answer
     requires { ⌜ EachGood operators tensors (now uses) ⌝ }
-    requires { ⌜ HoldsLives operators (now uses) lives ⌝ }
+    requires { ⌜ HoldsLifetimes operators (now uses) gathered ⌝ }
     requires { ⌜ (tensors ≤ greatestTensors) × (countOf (now uses) ≤ greatestUses) ⌝ }
-    ensures { λ r. ⌜ r ≡ livesOf operators tensors (now (uses .entry)) ⌝ }
+    ensures { λ r. ⌜ r ≡ judgedOf operators tensors (now (uses .entry)) ⌝ }
 {
-    let unnamed = lowest_unnamed(operators, tensors, lives);
-    let early = lowest_early(uses, lives);
+    let unnamed = lowest_unnamed(operators, tensors, gathered);
+    let early = lowest_early(uses, gathered);
     let tensor = unnamed.0 as u32;
     let place = early as u32;
     let never_named = tensor < tensors;
@@ -87,20 +92,20 @@ fn judge(operators: u32, tensors: u32, uses: &[i32], lives: [Life; GREATEST_TENS
 }
 
 // Stores the lives of so many tensors, two entries each, in the first entries of the table.
-fn store(tensors: u32, lives: [Life; GREATEST_TENSORS], lifetimes: &mut [i32])
+fn store(tensors: u32, gathered: [Lifetime; GREATEST_TENSORS], lifetimes: &mut [i32])
     requires { ⌜ (tensors ≤ greatestTensors) × (tensors * 2 ≤ length (now lifetimes)) ⌝ }
-    requires { ⌜ StorableLives tensors lives ⌝ }
-    ensures { λ _. ⌜ now (lifetimes .exit) ≡ replaced (storedWord lives) (tensors * 2) (now (lifetimes .entry)) ⌝ }
+    requires { ⌜ StorableLifetimes tensors gathered ⌝ }
+    ensures { λ _. ⌜ now (lifetimes .exit) ≡ replaced (storedWord gathered) (tensors * 2) (now (lifetimes .entry)) ⌝ }
 {
     let n = tensors as usize;
     let mut tensor = Tensor(0);
     while tensor.0 < n {
         let at = tensor.0;
-        let life = lives[at];
-        let first_entry = at * LIFE_WORDS;
+        let lifetime = gathered[at];
+        let first_entry = at * LIFETIME_WORDS;
         let last_entry = first_entry + 1;
-        let last = life.end.0 - 1;
-        lifetimes[first_entry] = life.first.0 as i32;
+        let last = lifetime.end.0 - 1;
+        lifetimes[first_entry] = lifetime.first.0 as i32;
         lifetimes[last_entry] = last as i32;
         tensor = Tensor(at + 1);
     }
@@ -116,11 +121,11 @@ pub fn from_uses(operators: u32, tensors: u32, uses: &[i32], lifetimes: &mut [i3
     if checked.number != Answer::DONE {
         return checked;
     }
-    let lives = gather::gather(operators, uses);
-    let judged = judge(operators, tensors, uses, lives);
+    let gathered = gather::gather(operators, uses);
+    let judged = judge(operators, tensors, uses, gathered);
     if judged.number != Answer::DONE {
         return judged;
     }
-    store(tensors, lives, lifetimes);
+    store(tensors, gathered, lifetimes);
     judged
 }

@@ -1,7 +1,7 @@
 -- `operator_uses::check_sizes` meets its contract: each way out is the first cause that holds.
 use mathlib.Core.Path.{_∙_}
 use Rattle.lifetime_rule.specs.Answers.{length-refused, limits-refused, room-refused, sizes-pass}
-use Rattle.lifetime_rule.specs.Lifetimes.{outOfLimits}
+use Rattle.lifetime_rule.specs.FromUses.{outOfLimits}
 use borrow.Author.Needs.{needs}
 use Rattle.operator_uses.proofs.check_sizes.Statement.{statement}
 use Rattle.operator_uses.proofs.check_sizes.Tie as tie

@@ -4,8 +4,8 @@ use denote.Ref.{now}
 use borrow.Author.Needs.{needs}
 use lib.ListN.{length}
 use Rattle.answer.specs.Answer.{numberOf}
-use Rattle.lifetime_rule.specs.Answers.{Sized, EachGood, listed, list-stands, lives-decide, done-says, done-lifetimes, refusal-keeps}
-use Rattle.lifetime_rule.specs.Lifetimes.{lifetimesOf}
+use Rattle.lifetime_rule.specs.Answers.{Sized, EachGood, listed, list-stands, judged-decides, done-says, done-lifetimes, refusal-keeps}
+use Rattle.lifetime_rule.specs.FromUses.{lifetimesOf}
 use Rattle.tensor_lifetimes.proofs.Judging.{stored-is, storable}
 use Rattle.tensor_lifetimes.proofs.from_uses.Statement.{statement}
 use Rattle.tensor_lifetimes.proofs.from_uses.Tie as tie
@@ -16,7 +16,7 @@ passed c = listed _ _ _ _ (sym (ap numberOf (c .before .before .check .ensures))
 
 -- the answer of the checks 20 and 21 is then the whole answer
 judged : (c : tie.After-judge) → let a = c .before .before .before .before .before .args in c .judge .result ≡ lifetimesOf (a .operators) (a .tensors) (now (a .uses)) (length (now (a .lifetimes)))
-judged c = let p = passed (c .before .before) in c .judge .ensures ∙ lives-decide _ _ _ _ (p .0) (p .1)
+judged c = let p = passed (c .before .before) in c .judge .ensures ∙ judged-decides _ _ _ _ (p .0) (p .1)
 
 check-requires : tie.Need-check-requires
 check-requires c κs = search needs

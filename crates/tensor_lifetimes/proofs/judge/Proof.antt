@@ -6,8 +6,8 @@ use denote.Ref.{now}
 use borrow.Author.Needs.{needs}
 use borrow.Author.Tests.{ltb-true, ltb-false}
 use Rattle.bounded.specs.First.{firstIn, first-is}
-use Rattle.lifetime_rule.specs.Answers.{name-refused, read-refused, lives-passed}
-use Rattle.lifetime_rule.specs.Lives.{unnamed, tooEarly}
+use Rattle.lifetime_rule.specs.Answers.{name-refused, read-refused, judged-passed}
+use Rattle.lifetime_rule.specs.Lifetimes.{unnamed, tooEarly}
 use Rattle.lifetime_rule.specs.Uses.{count}
 use Rattle.tensor_lifetimes.proofs.Judging.{lowest-unnamed-is, lowest-early-is, few-tensors}
 use Rattle.tensor_lifetimes.proofs.judge.Statement.{statement}
@@ -59,7 +59,7 @@ returns-3 : tie.Need-returns-3
 returns-3 c =
     let early = c .before .before .before .before in
     c .done .ensures
-    ∙ lives-passed _ _ _ (tensor-found (early .before)) (use-found early) (ltb-false _ _ (c .before .before .if1 .left)) (ltb-false _ _ (c .before .if2 .left))
+    ∙ judged-passed _ _ _ (tensor-found (early .before)) (use-found early) (ltb-false _ _ (c .before .before .if1 .left)) (ltb-false _ _ (c .before .if2 .left))
 
 pub judge-spec : {M : Type 1} → statement M
 judge-spec =

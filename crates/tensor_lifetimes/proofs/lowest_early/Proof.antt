@@ -11,10 +11,10 @@ use Rattle.tensor_lifetimes.proofs.lowest_early.Statement.{statement}
 use Rattle.tensor_lifetimes.proofs.lowest_early.Tie as tie
 
 abbrev Inv-loop : tie.InvT-loop
-Inv-loop uses lives n k₀ k = Scan (earlyIn uses lives) 0 n k
+Inv-loop uses gathered n k₀ k = Scan (earlyIn uses gathered) 0 n k
 
 abbrev μ-loop : tie.MeasureT-loop
-μ-loop uses lives n k₀ k = n - k
+μ-loop uses gathered n k₀ k = n - k
 
 -- the tensor of the use that was read has its place in the array
 few : (c : tie.After-use-at Inv-loop μ-loop) → c .use-at .result .tensor .0 < greatestTensors
@@ -26,11 +26,11 @@ loop-holds c = scan _ _ _
 use-at-requires : tie.Need-use-at-requires Inv-loop μ-loop
 use-at-requires c κs = tt
 
-mul-life : tie.Need-mul-life Inv-loop μ-loop
-mul-life c = omega (arith, few c)
+mul-lifetime : tie.Need-mul-lifetime Inv-loop μ-loop
+mul-lifetime c = omega (arith, few c)
 
-array-copy-out-life : tie.Need-array-copy-out-life Inv-loop μ-loop
-array-copy-out-life c = few c
+array-copy-out-lifetime : tie.Need-array-copy-out-lifetime Inv-loop μ-loop
+array-copy-out-lifetime c = few c
 
 returns : tie.Need-returns Inv-loop μ-loop
 returns c =
@@ -59,8 +59,8 @@ lowest-early-spec =
     μ-loop
     loop-holds
     use-at-requires
-    mul-life
-    array-copy-out-life
+    mul-lifetime
+    array-copy-out-lifetime
     returns
     add-k
     loop-less

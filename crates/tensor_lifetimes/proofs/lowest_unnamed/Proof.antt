@@ -8,19 +8,19 @@ use Rattle.tensor_lifetimes.proofs.lowest_unnamed.Statement.{statement}
 use Rattle.tensor_lifetimes.proofs.lowest_unnamed.Tie as tie
 
 abbrev Inv-loop : tie.InvT-loop
-Inv-loop operators tensors lives n tensor₀ tensor = Scan (unnamedIn operators lives) 0 n (tensor .0)
+Inv-loop operators tensors gathered n tensor₀ tensor = Scan (unnamedIn operators gathered) 0 n (tensor .0)
 
 abbrev μ-loop : tie.MeasureT-loop
-μ-loop operators tensors lives n tensor₀ tensor = n - tensor .0
+μ-loop operators tensors gathered n tensor₀ tensor = n - tensor .0
 
 loop-holds : tie.Need-loop-holds Inv-loop μ-loop
 loop-holds c = scan _ _ _
 
-mul-life : tie.Need-mul-life Inv-loop μ-loop
-mul-life c = omega (arith, c .if1 .taken)
+mul-lifetime : tie.Need-mul-lifetime Inv-loop μ-loop
+mul-lifetime c = omega (arith, c .if1 .taken)
 
-array-copy-out-life : tie.Need-array-copy-out-life Inv-loop μ-loop
-array-copy-out-life c = omega (arith, c .if1 .taken)
+array-copy-out-lifetime : tie.Need-array-copy-out-lifetime Inv-loop μ-loop
+array-copy-out-lifetime c = omega (arith, c .if1 .taken)
 
 returns : tie.Need-returns Inv-loop μ-loop
 returns c = hit (c .before .before .before .before .before .loop .inv) (c .before .before .before .if1 .taken) (le-leb _ _ (c .if2 .taken))
@@ -44,8 +44,8 @@ lowest-unnamed-spec =
     Inv-loop
     μ-loop
     loop-holds
-    mul-life
-    array-copy-out-life
+    mul-lifetime
+    array-copy-out-lifetime
     returns
     add-t10
     loop-less

@@ -11,15 +11,15 @@ use mir.Facts.{toZ-pos}
 use mir.Syntax.{w32}
 use Rattle.bounded.specs.Replaced.{replaced, replaced-none, replaced-length}
 use Rattle.bounded.specs.TwoEach.{two-more}
-use Rattle.tensor_lifetimes.specs.Gathered.{lifeIn, storedWord}
+use Rattle.tensor_lifetimes.specs.Gathered.{lifetimeIn, storedWord}
 use Rattle.tensor_lifetimes.proofs.store.Statement.{statement}
 use Rattle.tensor_lifetimes.proofs.store.Tie as tie
 
 abbrev Inv-loop : tie.InvT-loop
-Inv-loop tensors lifetimes₀ lives n tensor₀ lifetimes tensor = (lifetimes ≡ replaced (storedWord lives) (tensor .0 * 2) lifetimes₀) × (tensor .0 ≤ n)
+Inv-loop tensors lifetimes₀ gathered n tensor₀ lifetimes tensor = (lifetimes ≡ replaced (storedWord gathered) (tensor .0 * 2) lifetimes₀) × (tensor .0 ≤ n)
 
 abbrev μ-loop : tie.MeasureT-loop
-μ-loop tensors lifetimes₀ lives n tensor₀ lifetimes tensor = n - tensor .0
+μ-loop tensors lifetimes₀ gathered n tensor₀ lifetimes tensor = n - tensor .0
 
 -- the table is as long as it was
 long : (c : tie.At-loop Inv-loop μ-loop) → length (c .loop .lifetimes) ≡ length (now (c .before .args .lifetimes))
@@ -28,11 +28,11 @@ long c = ap length (c .loop .inv .0) ∙ replaced-length _ (c .loop .tensor .0 *
 loop-holds : tie.Need-loop-holds Inv-loop μ-loop
 loop-holds c = (sym (replaced-none _ _), omega arith)
 
-mul-life : tie.Need-mul-life Inv-loop μ-loop
-mul-life c = omega (arith, c .if1 .taken)
+mul-lifetime : tie.Need-mul-lifetime Inv-loop μ-loop
+mul-lifetime c = omega (arith, c .if1 .taken)
 
-array-copy-out-life : tie.Need-array-copy-out-life Inv-loop μ-loop
-array-copy-out-life c = omega (arith, c .if1 .taken)
+array-copy-out-lifetime : tie.Need-array-copy-out-lifetime Inv-loop μ-loop
+array-copy-out-lifetime c = omega (arith, c .if1 .taken)
 
 mul-first-entry : tie.Need-mul-first-entry Inv-loop μ-loop
 mul-first-entry c = omega (arith, c .before .if1 .taken)
@@ -76,11 +76,11 @@ loop-less c = omega (arith, c .before .before .before .if1 .taken)
 loop-again : tie.Need-loop-again Inv-loop μ-loop
 loop-again c =
     let at = c .before .before .before .before .before in
-    let lives = at .before .args .t2 in
+    let gathered = at .before .args .t2 in
     let t = at .loop .tensor .0 in
     let l = c .before .before .before .if1 .taken in (
-      rw (toZ-pos w32 {n = lifeIn lives t .first .0} (omega (arith, at .before .pre .1 .first-small t l)), toZ-pos w32 {n = lifeIn lives t .end .0 - 1} (omega (arith, at .before .pre .1 .end-small t l)))
-          (ap (λ (xs : List ℤ). set (set xs (t * 2) (pos (lifeIn lives t .first .0))) (t * 2 + 1) (pos (lifeIn lives t .end .0 - 1))) (at .loop .inv .0) ∙ two-more _ _ t _),
+      rw (toZ-pos w32 {n = lifetimeIn gathered t .first .0} (omega (arith, at .before .pre .1 .first-small t l)), toZ-pos w32 {n = lifetimeIn gathered t .end .0 - 1} (omega (arith, at .before .pre .1 .end-small t l)))
+          (ap (λ (xs : List ℤ). set (set xs (t * 2) (pos (lifetimeIn gathered t .first .0))) (t * 2 + 1) (pos (lifetimeIn gathered t .end .0 - 1))) (at .loop .inv .0) ∙ two-more _ _ t _),
       omega arith,
     )
 
@@ -100,8 +100,8 @@ store-spec =
     Inv-loop
     μ-loop
     loop-holds
-    mul-life
-    array-copy-out-life
+    mul-lifetime
+    array-copy-out-lifetime
     mul-first-entry
     add-last-entry
     sub-last

@@ -18,15 +18,15 @@ use Rattle.bounded.specs.TwoEach.{two-first, two-second}
 use Rattle.words.specs.Words.{wordAt, natural}
 use Rattle.words.specs.WordOrders.{le-of}
 use Rattle.request_table.specs.Limits.{lastMoment}
-use Rattle.lifetime_rule.specs.Answers.{Done, done-says, done-lifetimes}
-use Rattle.lifetime_rule.specs.GoodUses.{Natural, tests, good-natural}
-use Rattle.lifetime_rule.specs.Lives.{named, firstOf, lastOf, unnamed, lifeWord}
-use Rattle.lifetime_rule.specs.Lifetimes.{lifetimesOf, finalLifetimes}
+use Rattle.lifetime_rule.specs.Answers.{natural-words, Done, done-says, done-lifetimes}
+use Rattle.lifetime_rule.specs.GoodUses.{Natural, tests}
+use Rattle.lifetime_rule.specs.Lifetimes.{named, firstOf, lastOf, unnamed, lifetimeWord}
+use Rattle.lifetime_rule.specs.FromUses.{lifetimesOf, finalLifetimes}
 use Rattle.lifetime_rule.specs.Naming.{Names, by-reading, by-writing, as-input, Lets, Some, Named, named-says, named-of, read-let}
 use Rattle.lifetime_rule.specs.Uses.{reads, count, word, useAt}
 
 -- A tensor lives from first to last: "from the lowest to the highest operator that names the tensor".
-pub record Life (operators : ℕ) (u : List ℤ) (t first last : ℕ) : Type 0 where
+pub record Lifetime (operators : ℕ) (u : List ℤ) (t first last : ℕ) : Type 0 where
   pub rising : first ≤ last
   pub below : last < operators
   pub holds : (m k : ℕ) → k < count u → Names u t m k → (first ≤ m) × (m ≤ last)
@@ -34,13 +34,13 @@ pub record Life (operators : ℕ) (u : List ℤ) (t first last : ℕ) : Type 0 w
   pub last-named : Named u t last
 
 -- The lifetimes in the end, the first and last of each tensor, and the reads.
-pub record Lived (operators tensors : ℕ) (u lifetimes : List ℤ) : Type 0 where
+pub record Left (operators tensors : ℕ) (u lifetimes : List ℤ) : Type 0 where
   pub first : ℕ → ℕ
   pub last : ℕ → ℕ
   -- entries 2t and 2t + 1 are tensor t's life, and the rest stays
   pub first-entry : (t : ℕ) → t < tensors → wordAt (finalLifetimes operators tensors u lifetimes) (t * 2) ≡ pos (first t)
   pub last-entry : (t : ℕ) → t < tensors → wordAt (finalLifetimes operators tensors u lifetimes) (t * 2 + 1) ≡ pos (last t)
-  pub life : (t : ℕ) → t < tensors → Life operators u t (first t) (last t)
+  pub lifetime : (t : ℕ) → t < tensors → Lifetime operators u t (first t) (last t)
   pub rest : (i : ℕ) → tensors * 2 ≤ i → wordAt (finalLifetimes operators tensors u lifetimes) i ≡ wordAt lifetimes i
   pub long : length (finalLifetimes operators tensors u lifetimes) ≡ length lifetimes
   -- "A read needs role 2 or a write by an earlier operator."
@@ -50,9 +50,9 @@ pub record Lived (operators tensors : ℕ) (u lifetimes : List ℤ) : Type 0 whe
 
 module _ (operators : ℕ) (u : List ℤ) (each : (k : ℕ) → k < count u → Natural u k) (low : (t m k : ℕ) → k < count u → Names u t m k → m < operators) where
   -- A named tensor lives so.
-  pub lives-so : (t : ℕ) → unnamed operators u t ≡ false → Life operators u t (firstOf operators u t) (lastOf operators u t)
+  pub named-lifetime : (t : ℕ) → unnamed operators u t ≡ false → Lifetime operators u t (firstOf operators u t) (lastOf operators u t)
   unfolding unnamed firstOf lastOf
-  lives-so t e =
+  named-lifetime t e =
       let x = found (named u t) operators (not-false _ e) in
       let l = last-is (named u t) operators _ (x .0) (x .1) in
       record {
@@ -71,8 +71,8 @@ module _ (operators tensors : ℕ) (u lifetimes : List ℤ) (d : lifetimesOf ope
   done : Done operators tensors u (length lifetimes)
   done = done-says operators tensors u (length lifetimes) (ap numberOf d)
 
-  natural-words : (k : ℕ) → k < count u → Natural u k
-  natural-words k l = good-natural operators tensors u k (done .sized .few-operators) (done .sized .few-tensors) (done .uses-good .each k l)
+  all-natural : (k : ℕ) → k < count u → Natural u k
+  all-natural = natural-words operators tensors u (length lifetimes) (done .sized) (done .uses-good)
 
   below : (k : ℕ) → k < count u → (m : ℕ) → word u k 0 ≡ pos m → m < operators
   unfolding natural useAt
@@ -87,30 +87,30 @@ module _ (operators tensors : ℕ) (u lifetimes : List ℤ) (d : lifetimesOf ope
   named-low t m k l (as-input r w z) = omega (arith, z, done .sized .some-operator)
 
   -- A done list leaves this.
-  pub lived : Lived operators tensors u lifetimes
-  lived =
+  pub left : Left operators tensors u lifetimes
+  left =
       let f = done-lifetimes operators tensors u lifetimes (ap numberOf d) in
       record {
         first = firstOf operators u;
         last = lastOf operators u;
         first-entry = λ t l.
-            ap (λ (xs : List ℤ). wordAt xs (t * 2)) f ∙ replaced-at (lifeWord operators u) (tensors * 2) lifetimes (pos 0) (t * 2) (omega arith) (done .sized .roomy) ∙ two-first _ _ t;
+            ap (λ (xs : List ℤ). wordAt xs (t * 2)) f ∙ replaced-at (lifetimeWord operators u) (tensors * 2) lifetimes (pos 0) (t * 2) (omega arith) (done .sized .roomy) ∙ two-first _ _ t;
         last-entry = λ t l.
-            ap (λ (xs : List ℤ). wordAt xs (t * 2 + 1)) f ∙ replaced-at (lifeWord operators u) (tensors * 2) lifetimes (pos 0) (t * 2 + 1) (omega arith) (done .sized .roomy) ∙ two-second _ _ t;
-        life = λ t l. lives-so operators u natural-words named-low t (done .all-named t l);
-        rest = λ i l. ap (λ (xs : List ℤ). wordAt xs i) f ∙ replaced-past (lifeWord operators u) (tensors * 2) lifetimes (pos 0) i l;
-        long = ap length f ∙ replaced-length (lifeWord operators u) (tensors * 2) lifetimes;
-        let-read = λ k l e. read-let u natural-words k l e (done .none-early k l);
+            ap (λ (xs : List ℤ). wordAt xs (t * 2 + 1)) f ∙ replaced-at (lifetimeWord operators u) (tensors * 2) lifetimes (pos 0) (t * 2 + 1) (omega arith) (done .sized .roomy) ∙ two-second _ _ t;
+        lifetime = λ t l. named-lifetime operators u all-natural named-low t (done .all-named t l);
+        rest = λ i l. ap (λ (xs : List ℤ). wordAt xs i) f ∙ replaced-past (lifetimeWord operators u) (tensors * 2) lifetimes (pos 0) i l;
+        long = ap length f ∙ replaced-length (lifetimeWord operators u) (tensors * 2) lifetimes;
+        let-read = λ k l e. read-let u all-natural k l e (done .none-early k l);
       }
 
   -- The ends of a life are good moments for a request row: "0 ≤ first ≤ last ≤ 65,535".
   pub good-moments : (t : ℕ) → t < tensors → (first last : ℤ) → first ≡ wordAt (finalLifetimes operators tensors u lifetimes) (t * 2) → last ≡ wordAt (finalLifetimes operators tensors u lifetimes) (t * 2 + 1)
       → (pos 0 ≤ℤ first) × (first ≤ℤ last) × (last ≤ℤ pos lastMoment)
   good-moments t l first last p q =
-      let x = lived .life t l in
-      let a = p ∙ lived .first-entry t l in
-      let b = q ∙ lived .last-entry t l in (
+      let x = left .lifetime t l in
+      let a = p ∙ left .first-entry t l in
+      let b = q ∙ left .last-entry t l in (
         subst (λ (z : ℤ). pos 0 ≤ℤ z) (sym a) (le-of 0 _ (omega arith)),
-        subst (λ (z : ℤ). z ≤ℤ last) (sym a) (subst (λ (z : ℤ). pos (lived .first t) ≤ℤ z) (sym b) (le-of _ _ (x .rising))),
+        subst (λ (z : ℤ). z ≤ℤ last) (sym a) (subst (λ (z : ℤ). pos (left .first t) ≤ℤ z) (sym b) (le-of _ _ (x .rising))),
         subst (λ (z : ℤ). z ≤ℤ pos lastMoment) (sym b) (le-of _ _ (omega (arith, x .below, done .sized .few-operators))),
       )

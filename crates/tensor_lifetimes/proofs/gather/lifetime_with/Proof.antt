@@ -1,0 +1,27 @@
+-- `tensor_lifetimes::gather::lifetime_with` meets its contract.
+use borrow.Author.Needs.{needs}
+use Rattle.tensor_lifetimes.proofs.OneUse.{lifetime-stays, lifetime-counts}
+use Rattle.tensor_lifetimes.proofs.gather.lifetime_with.Statement.{statement}
+use Rattle.tensor_lifetimes.proofs.gather.lifetime_with.Tie as tie
+
+returns : tie.Need-returns
+returns c = lifetime-stays _ _ (c .if1 .taken)
+
+first-with-requires : tie.Need-first-with-requires
+first-with-requires c κs = search needs
+
+end-with-requires : tie.Need-end-with-requires
+end-with-requires c κs = search needs
+
+readable-with-requires : tie.Need-readable-with-requires
+readable-with-requires c κs = search needs
+
+returns-2 : tie.Need-returns-2
+returns-2 c =
+    let end = c .before in
+    let first = end .before in
+    let a = first .before .before .before .args in
+    lifetime-counts (a .lifetime) (a .usage) (first .before .if1 .left) (first .first-with .ensures) (end .end-with .ensures) (c .readable-with .ensures)
+
+pub lifetime-with-spec : {M : Type 1} → statement M
+lifetime-with-spec = tie.close (tie.spec returns first-with-requires end-with-requires readable-with-requires returns-2)
