@@ -81,10 +81,6 @@ module _ (p : ℕ → Bool) where
       no-later : (r q : ℕ) → IsLeast p r → IsLeast p q → r ≤ q
       no-later r q x y = ⊎-elim (λ l. contrary (y .passes) (x .below q l)) (λ l. l) (lt-or-le q r)
 
-  -- No index that passes is below the first.
-  pub first-lowest : (n k : ℕ) → p k ≡ true → firstIn p 0 n ≤ k
-  first-lowest n k e = ⊎-elim (λ l. contrary e (first-is 0 n zero-le .before k zero-le l)) (λ l. l) (lt-or-le k (firstIn p 0 n))
-
   -- Only one index is first.
   pub one-first : (s n r : ℕ) → IsFirst p s n r → firstIn p s n ≡ r
   one-first s n r x = let f = first-is s n (omega (arith, x .low, x .high)) in le-antisymm (no-later (firstIn p s n) r f x) (no-later r (firstIn p s n) x f)

@@ -43,7 +43,7 @@ last-is p (suc n) k l e = go (p n) refl (λ m. last-is p n k m e)
         }
 
 -- No index that passes is above the last.
-pub last-highest : {p : ℕ → Bool} {n r : ℕ} → IsLast p n r → (k : ℕ) → k < n → p k ≡ true → k ≤ r
+last-highest : {p : ℕ → Bool} {n r : ℕ} → IsLast p n r → (k : ℕ) → k < n → p k ≡ true → k ≤ r
 last-highest x k l e = ⊎-elim (λ m. contrary e (x .after k m l)) (λ m. m) (lt-or-le _ k)
 
 -- ---- the end

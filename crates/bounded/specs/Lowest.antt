@@ -7,6 +7,7 @@ use mathlib.Core.Path.{_≡_}
 use native.Mathlib.Omega.{arith}
 use Rattle.bounded.specs.Boolean.{contrary, lt-or-le}
 use Rattle.bounded.specs.First.{firstIn, holdsBelow, first-is, found}
+use Rattle.bounded.specs.Last.{lastIn, last-is}
 use Rattle.bounded.specs.Pair.{pairBelow, pairFirst, pairSecond, least-pair}
 
 -- Index a is below n, it is so there, and at no lower index.
@@ -14,6 +15,12 @@ pub record Lowest (So : ℕ → Type 0) (n a : ℕ) : Type 0 where
   pub within : a < n
   pub here : So a
   pub below : (k : ℕ) → k < a → So k → ⊥
+
+-- Index a is below n, it is so there, and at no higher index below n.
+pub record Highest (So : ℕ → Type 0) (n a : ℕ) : Type 0 where
+  pub within : a < n
+  pub here : So a
+  pub above : (k : ℕ) → a < k → k < n → So k → ⊥
 
 -- It is so of a and b; of no pair with a lower first index, and of none with that first index and a lower second.
 pub record LeastPair (So : ℕ → ℕ → Type 0) (a b : ℕ) : Type 0 where
@@ -31,6 +38,14 @@ lowest-of p n says of e =
       here = says _ (x .0) (x .1);
       below = λ k l s. contrary (of k (omega (arith, x .0)) s) (first-is p 0 n (omega arith) .before k (omega arith) l);
     }
+
+-- Where it is so of some index, the last index that passes is the highest of which it is so.
+pub highest-of : {So : ℕ → Type 0} (p : ℕ → Bool) (n : ℕ) → ((k : ℕ) → p k ≡ true → So k) → ((k : ℕ) → So k → p k ≡ true) → holdsBelow p n ≡ true
+    → Highest So n (lastIn p n)
+highest-of p n says of e =
+    let x = found p n e in
+    let l = last-is p n _ (x .0) (x .1) in
+    record { within = l .within; here = says _ (l .passes); above = λ k h m s. contrary (of k s) (l .after k h m) }
 
 -- The pair that the search found is the least of which the test's meaning is so.
 pub least-of : {So : ℕ → ℕ → Type 0} (c : ℕ → ℕ → Bool) (n : ℕ) → ((a b : ℕ) → a < b → b < n → c a b ≡ true → So a b)

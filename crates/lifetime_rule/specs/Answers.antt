@@ -178,7 +178,7 @@ module _ (operators tensors : ℕ) (u : List ℤ) (room : ℕ) where
   -- A refusal of the four stands;
   pub list-stands : (listOf operators tensors u room .number ≡ 0 → ⊥) → listOf operators tensors u room ≡ lifetimesOf operators tensors u room
   unfolding listOf lifetimesOf
-  list-stands h = refused-stands numberOf (listCauses operators tensors u room) (lifetimeCauses operators tensors u) (doneWith 0) (doneWith 0) refl h
+  list-stands h = refused-stands numberOf (listCauses operators tensors u room) (lifetimeCauses operators tensors u) (doneWith 0) _ refl h
 
   -- past them the checks 20 and 21 decide.
   pub judged-decides : Sized operators tensors u room → EachGood operators tensors u → judgedOf operators tensors u ≡ lifetimesOf operators tensors u room

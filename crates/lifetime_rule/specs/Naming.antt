@@ -45,7 +45,14 @@ pub record TooEarly (u : List ℤ) (k : ℕ) : Type 0 where
 -- ---- one use
 
 module _ (u : List ℤ) (k : ℕ) where
-  -- A use whose words are natural numbers names as the test says,
+  -- A use that names a tensor passes the test,
+  pub names-of : (t m : ℕ) → Names u t m k → names (useAt u k) t m ≡ true
+  unfolding names useAt natural
+  names-of t m (by-reading r w o) = rw (r, w, o) (both-hold _ _ (eq-eqb t t refl) (rw (eq-eqb m m refl)))
+  names-of t m (by-writing r w o) = rw (r, w, o) (both-hold _ _ (eq-eqb t t refl) (rw (eq-eqb m m refl)))
+  names-of t m (as-input r w z) = rw (r, w, z) (both-hold _ _ (eq-eqb t t refl) refl)
+
+  -- and where its words are natural numbers, the other way.
   pub names-says : (t m : ℕ) → Natural u k → names (useAt u k) t m ≡ true → Names u t m k
   unfolding names useAt
   names-says t m n e =
@@ -69,14 +76,7 @@ module _ (u : List ℤ) (k : ℕ) where
       how w (inl q) = let x = both (eqb (natural (word u k 2)) reads || eqb (natural (word u k 2)) writes) (eqb (natural (word u k 0)) m) q in act w (x .1) (either _ _ (x .0))
       how w (inr q) = let x = both (eqb (natural (word u k 2)) modelInput) (eqb 0 m) q in as-input (role (x .0)) w (sym (eqb-true 0 m (x .1)))
 
-  -- and the other way.
-  pub names-of : (t m : ℕ) → Names u t m k → names (useAt u k) t m ≡ true
-  unfolding names useAt natural
-  names-of t m (by-reading r w o) = rw (r, w, o) (both-hold _ _ (eq-eqb t t refl) (rw (eq-eqb m m refl)))
-  names-of t m (by-writing r w o) = rw (r, w, o) (both-hold _ _ (eq-eqb t t refl) (rw (eq-eqb m m refl)))
-  names-of t m (as-input r w z) = rw (r, w, z) (both-hold _ _ (eq-eqb t t refl) refl)
-
-  -- The same for one use that lets another read.
+  -- A use that passes the other test lets another read,
   pub lets-says : (j : ℕ) → Natural u k → Natural u j → lets (useAt u j) (natural (word u k 1)) (natural (word u k 0)) ≡ true → Lets u k j
   unfolding lets useAt
   lets-says j n i e =
@@ -94,6 +94,7 @@ module _ (u : List ℤ) (k : ℕ) where
           after-writing (role (x .0)) w
           (subst (λ (z : ℤ). z <ℤ word u k 0) (sym (i .operator-is)) (subst (λ (z : ℤ). pos (natural (word u j 0)) <ℤ z) (sym (n .operator-is)) (lt-of _ _ (ltb-true _ _ (x .1)))))
 
+  -- and the other way.
   pub lets-of : (j : ℕ) → Natural u k → Natural u j → Lets u k j → lets (useAt u j) (natural (word u k 1)) (natural (word u k 0)) ≡ true
   unfolding lets useAt natural
   lets-of j n i (of-input r w) = rw (r, w) (both-hold _ _ (eq-eqb (natural (word u k 1)) _ refl) refl)
@@ -116,17 +117,6 @@ module _ (u : List ℤ) (each : (k : ℕ) → k < count u → Natural u k) where
   unfolding named
   named-of t m x = some-found (λ k. names (useAt u k) t m) (count u) (x .which) (x .within) (names-of u (x .which) t m (x .so))
 
-  -- A use reads too early as the test says,
-  pub early-says : (k : ℕ) → k < count u → tooEarly u k ≡ true → TooEarly u k
-  unfolding tooEarly readable useAt
-  early-says k l e =
-      let x = both (eqb (natural (word u k 2)) reads) (not (readable u (natural (word u k 1)) (natural (word u k 0)))) e in
-      let none = none-holds (λ j. lets (useAt u j) (natural (word u k 1)) (natural (word u k 0))) (count u) (not-true _ (x .1)) in
-      record {
-        is-read = each k l .role-is ∙ ap pos (eqb-true _ _ (x .0));
-        not-let = λ s. contrary (lets-of u k (s .which) (each k l) (each _ (s .within)) (s .so)) (none (s .which) (s .within));
-      }
-
   -- A use that reads, and not too early, is let by some use.
   pub read-let : (k : ℕ) → k < count u → word u k 2 ≡ pos reads → tooEarly u k ≡ false → Some u (Lets u k)
   unfolding tooEarly readable useAt natural
@@ -139,3 +129,14 @@ module _ (u : List ℤ) (each : (k : ℕ) → k < count u → Natural u k) where
   -- So a use that none lets reads too early.
   pub early-of : (k : ℕ) → k < count u → TooEarly u k → tooEarly u k ≡ true
   early-of k l x = refuted _ (λ e. x .not-let (read-let k l (x .is-read) e))
+
+  -- And the other way.
+  pub early-says : (k : ℕ) → k < count u → tooEarly u k ≡ true → TooEarly u k
+  unfolding tooEarly readable useAt
+  early-says k l e =
+      let x = both (eqb (natural (word u k 2)) reads) (not (readable u (natural (word u k 1)) (natural (word u k 0)))) e in
+      let none = none-holds (λ j. lets (useAt u j) (natural (word u k 1)) (natural (word u k 0))) (count u) (not-true _ (x .1)) in
+      record {
+        is-read = each k l .role-is ∙ ap pos (eqb-true _ _ (x .0));
+        not-let = λ s. contrary (lets-of u k (s .which) (each k l) (each _ (s .within)) (s .so)) (none (s .which) (s .within));
+      }

@@ -4,6 +4,7 @@
 use Prim.Native.Nat.{ℕ, _+_, _*_, _<_, _≤_}
 use mathlib.Core.Bool.{false}
 use mathlib.Core.List.{List}
+use mathlib.Core.Logic.{⊎-elim}
 use mathlib.Core.Path.{_≡_, sym, _∙_, ap, subst}
 use native.Mathlib.Omega.{arith}
 use borrow.Author.Tests.{not-false}
@@ -11,8 +12,8 @@ use lib.IntN.{ℤ, pos}
 use lib.ListN.{length}
 use lib.Signed.{_≤ℤ_}
 use Rattle.answer.specs.Answer.{numberOf, doneWith}
-use Rattle.bounded.specs.First.{first-lowest, found}
-use Rattle.bounded.specs.Last.{last-is, last-highest}
+use Rattle.bounded.specs.Boolean.{lt-or-le}
+use Rattle.bounded.specs.Lowest.{Lowest, Highest, lowest-of, highest-of}
 use Rattle.bounded.specs.Replaced.{replaced-length, replaced-at, replaced-past}
 use Rattle.bounded.specs.TwoEach.{two-first, two-second}
 use Rattle.words.specs.Words.{wordAt, natural}
@@ -48,22 +49,35 @@ pub record Left (operators tensors : ℕ) (u lifetimes : List ℤ) : Type 0 wher
 
 -- ---- the lives
 
-module _ (operators : ℕ) (u : List ℤ) (each : (k : ℕ) → k < count u → Natural u k) (low : (t m k : ℕ) → k < count u → Names u t m k → m < operators) where
-  -- A named tensor lives so.
-  pub named-lifetime : (t : ℕ) → unnamed operators u t ≡ false → Lifetime operators u t (firstOf operators u t) (lastOf operators u t)
-  unfolding unnamed firstOf lastOf
-  named-lifetime t e =
-      let x = found (named u t) operators (not-false _ e) in
-      let l = last-is (named u t) operators _ (x .0) (x .1) in
+module _ (operators : ℕ) (u : List ℤ) (each : (k : ℕ) → k < count u → Natural u k) (t : ℕ) (e : unnamed operators u t ≡ false) where
+  -- A life begins at the lowest operator that names the tensor,
+  pub first-is-lowest : Lowest (Named u t) operators (firstOf operators u t)
+  unfolding unnamed firstOf
+  first-is-lowest = lowest-of (named u t) operators (λ m l. named-says u each t m) (λ m l. named-of u each t m) (not-false _ e)
+
+  -- and ends at the highest.
+  pub last-is-highest : Highest (Named u t) operators (lastOf operators u t)
+  unfolding unnamed lastOf
+  last-is-highest = highest-of (named u t) operators (named-says u each t) (named-of u each t) (not-false _ e)
+
+  -- So a named tensor lives, where every operator that names it is one of the operators.
+  pub named-lifetime : ((m k : ℕ) → k < count u → Names u t m k → m < operators) → Lifetime operators u t (firstOf operators u t) (lastOf operators u t)
+  named-lifetime low =
       record {
-        rising = last-highest l _ (x .0) (x .1);
-        below = l .within;
+        rising = not-above (firstOf operators u t) (first-is-lowest .within) (first-is-lowest .here);
+        below = last-is-highest .within;
         holds = λ m k w n.
-            let passes = named-of u each t m (record { which = k; within = w; so = n }) in
-            (first-lowest (named u t) operators m passes, last-highest l m (low t m k w n) passes);
-        first-named = named-says u each t _ (x .1);
-        last-named = named-says u each t _ (l .passes);
+            let named-there : Named u t m = record { which = k; within = w; so = n } in
+            (not-below m named-there, not-above m (low m k w n) named-there);
+        first-named = first-is-lowest .here;
+        last-named = last-is-highest .here;
       }
+    where
+      not-below : (m : ℕ) → Named u t m → firstOf operators u t ≤ m
+      not-below m n = ⊎-elim (λ l. absurd (first-is-lowest .below m l n)) (λ l. l) (lt-or-le m (firstOf operators u t))
+
+      not-above : (m : ℕ) → m < operators → Named u t m → m ≤ lastOf operators u t
+      not-above m l n = ⊎-elim (λ h. absurd (last-is-highest .above m h l n)) (λ h. h) (lt-or-le (lastOf operators u t) m)
 
 -- ---- a done list
 
@@ -97,7 +111,7 @@ module _ (operators tensors : ℕ) (u lifetimes : List ℤ) (d : lifetimesOf ope
             ap (λ (xs : List ℤ). wordAt xs (t * 2)) f ∙ replaced-at (lifetimeWord operators u) (tensors * 2) lifetimes (pos 0) (t * 2) (omega arith) (done .sized .roomy) ∙ two-first _ _ t;
         last-entry = λ t l.
             ap (λ (xs : List ℤ). wordAt xs (t * 2 + 1)) f ∙ replaced-at (lifetimeWord operators u) (tensors * 2) lifetimes (pos 0) (t * 2 + 1) (omega arith) (done .sized .roomy) ∙ two-second _ _ t;
-        lifetime = λ t l. named-lifetime operators u all-natural named-low t (done .all-named t l);
+        lifetime = λ t l. named-lifetime operators u all-natural t (done .all-named t l) (named-low t);
         rest = λ i l. ap (λ (xs : List ℤ). wordAt xs i) f ∙ replaced-past (lifetimeWord operators u) (tensors * 2) lifetimes (pos 0) i l;
         long = ap length f ∙ replaced-length (lifetimeWord operators u) (tensors * 2) lifetimes;
         let-read = λ k l e. read-let u all-natural k l e (done .none-early k l);

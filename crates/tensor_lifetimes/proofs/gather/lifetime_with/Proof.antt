@@ -1,11 +1,12 @@
 -- `tensor_lifetimes::gather::lifetime_with` meets its contract.
+use native.Mathlib.Omega.{arith}
 use borrow.Author.Needs.{needs}
 use Rattle.tensor_lifetimes.proofs.OneUse.{lifetime-stays, lifetime-counts}
 use Rattle.tensor_lifetimes.proofs.gather.lifetime_with.Statement.{statement}
 use Rattle.tensor_lifetimes.proofs.gather.lifetime_with.Tie as tie
 
 returns : tie.Need-returns
-returns c = lifetime-stays _ _ (c .if1 .taken)
+returns c = let a = c .before .before .args in lifetime-stays (a .lifetime) (a .usage) (omega (arith, c .if1 .taken))
 
 first-with-requires : tie.Need-first-with-requires
 first-with-requires c κs = search needs
