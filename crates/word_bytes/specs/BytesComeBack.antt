@@ -2,15 +2,16 @@
 -- words beside it stay, and a word put back where it was read changes nothing.
 use Prim.Native.Nat.{ℕ, zero, suc, _+_, _*_, _-_, _/_, _%_, _^_, _≤_, _<_}
 use mathlib.Core.Bool.{Bool, true, false, cond}
-use mathlib.Core.List.{List}
+use mathlib.Core.List.{List, []}
 use mathlib.Core.Logic.{_⊎_, ⊎-elim}
 use mathlib.Core.Path.{_≡_, refl, ap, _∙_}
+use native.Mathlib.Nat.{add-assoc, add-zero, eq-or-lt-of-le}
 use native.Mathlib.Omega.{arith}
 use borrow.Author.Tests.{lt-ltb, le-ltb}
 use lib.Dec.{ltb}
 use lib.IntN.{ℤ, pos, negsuc}
-use lib.ListN.{length, getD, set, length-set}
-use lib.Seq.{getD-set-same, getD-set-other, set-getD}
+use lib.ListN.{length, getD, set, length-set, List·getD-eq-default}
+use lib.Seq.{getD-set-same, getD-set-other, set-getD, set-out}
 use lib.Signed.{mag}
 use Rattle.word_bytes.specs.Bytes.{littleEndian, withLittleEndian, signedWord, unsignedWord, wordOf, withWord}
 
@@ -57,6 +58,30 @@ elsewhere (suc m) k bytes at other n apart =
     let rest = elsewhere m k bytes at (other + 1) n (λ i j h g e. apart (i + 1) j (omega arith) g (omega arith)) in
     cc
 
+copied : (k : ℕ) (bytes source : List ℕ) (at i : ℕ) → ((j : ℕ) → getD source j 0 < 256) → at + k ≤ length bytes → at ≤ i → i < at + k
+    → getD (withLittleEndian bytes at k (littleEndian source at k)) i 0 ≡ getD source i 0
+unfolding littleEndian withLittleEndian
+copied zero bytes source at i small room l h = absurd (omega arith)
+copied (suc k) bytes source at i small room l h =
+    let low : (getD source at 0 + 256 * littleEndian source (at + 1) k) % 256 ≡ getD source at 0 = omega (arith, small at) in
+    let high : (getD source at 0 + 256 * littleEndian source (at + 1) k) / 256 ≡ littleEndian source (at + 1) k = omega (arith, small at) in
+    let rest : List ℕ = set bytes at (getD source at 0) in
+    let above : ℕ = littleEndian source (at + 1) k in
+    rw (low, high)
+    (⊎-elim
+    (λ e. rw (← e) (outside k rest (at + 1) at above (λ j h e. omega arith) ∙ getD-set-same bytes at (getD source at 0) 0 (omega arith)))
+    (λ (m : at < i). copied k rest source (at + 1) i small (simp length-set (omega arith)) (omega arith) (omega arith))
+    (eq-or-lt-of-le l))
+
+same : (k : ℕ) (bytes others : List ℕ) (at place : ℕ) → ((i : ℕ) → i < k → getD bytes (at + i) 0 ≡ getD others (place + i) 0)
+    → littleEndian bytes at k ≡ littleEndian others place k
+unfolding littleEndian
+same zero bytes others at place f = refl
+same (suc k) bytes others at place f =
+    let first : getD bytes at 0 ≡ getD others place 0 = simp add-zero at (f 0 (omega arith)) in
+    let rest = same k bytes others (at + 1) (place + 1) (λ i h. simp add-assoc (f (1 + i) (omega arith))) in
+    cc
+
 -- A number of k bytes is below 256 to the k.
 pub number-fits : (k : ℕ) (bytes : List ℕ) (at : ℕ) → ((i : ℕ) → getD bytes i 0 < 256) → littleEndian bytes at k < 256 ^ k
 unfolding littleEndian
@@ -76,6 +101,11 @@ kept : (k : ℕ) (bytes : List ℕ) (at n : ℕ) → length (withLittleEndian by
 unfolding withLittleEndian
 kept zero bytes at n = refl
 kept (suc k) bytes at n = kept k (set bytes at (n % 256)) (at + 1) (n / 256) ∙ length-set bytes at (n % 256)
+
+unput : (k : ℕ) (bytes : List ℕ) (at n : ℕ) → length bytes ≤ at → withLittleEndian bytes at k n ≡ bytes
+unfolding withLittleEndian
+unput zero bytes at n l = refl
+unput (suc k) bytes at n l = rw (set-out bytes at (n % 256) l) (unput k bytes (at + 1) (n / 256) (omega arith))
 
 unsigned-fits : (z : ℤ) → mag z < 2 ^ 31 → unsignedWord z < 2 ^ 32
 unfolding unsignedWord
@@ -106,3 +136,31 @@ word-put-back bytes at small =
 pub length-kept : (bytes : List ℕ) (at : ℕ) (z : ℤ) → length (withWord bytes at z) ≡ length bytes
 unfolding withWord
 length-kept bytes at z = kept 4 bytes at (unsignedWord z)
+
+-- Putting a word changes no byte but its four.
+pub byte-elsewhere : (bytes : List ℕ) (at i : ℕ) (z : ℤ) → (i < at) ⊎ (at + 4 ≤ i) → getD (withWord bytes at z) i 0 ≡ getD bytes i 0
+unfolding withWord
+byte-elsewhere bytes at i z apart = outside 4 bytes at i (unsignedWord z) (λ j h e. ⊎-elim (λ w. omega arith) (λ w. omega arith) apart)
+
+-- The word read at a place of some bytes, put at that place of others, copies its four bytes.
+pub byte-copied : (bytes source : List ℕ) (at i : ℕ) → ((j : ℕ) → getD source j 0 < 256) → at + 4 ≤ length bytes → at ≤ i → i < at + 4
+    → getD (withWord bytes at (wordOf source at)) i 0 ≡ getD source i 0
+unfolding wordOf withWord
+byte-copied bytes source at i small room l h =
+    rw (unsigned-of-signed (littleEndian source at 4) (number-fits 4 source at small)) (copied 4 bytes source at i small room l h)
+
+-- Four bytes that are the same are one word, wherever they stand.
+pub word-same : (bytes others : List ℕ) (at place : ℕ) → ((i : ℕ) → i < 4 → getD bytes (at + i) 0 ≡ getD others (place + i) 0)
+    → wordOf bytes at ≡ wordOf others place
+unfolding wordOf
+word-same bytes others at place f = ap signedWord (same 4 bytes others at place f)
+
+-- Past the end every word is 0.
+pub word-past : (bytes : List ℕ) (at : ℕ) → length bytes ≤ at → wordOf bytes at ≡ pos 0
+unfolding wordOf littleEndian signedWord
+word-past bytes at l = word-same bytes [] at 0 (λ i h. List·getD-eq-default bytes 0 (omega arith))
+
+-- A word put past the end changes nothing.
+pub put-past : (bytes : List ℕ) (at : ℕ) (z : ℤ) → length bytes ≤ at → withWord bytes at z ≡ bytes
+unfolding withWord
+put-past bytes at z l = unput 4 bytes at (unsignedWord z) l

@@ -1,0 +1,2 @@
+pub mod WordLists
+pub mod WordsComeBack
