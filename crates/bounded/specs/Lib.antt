@@ -10,3 +10,4 @@ pub mod Causes
 pub mod Count
 pub mod InOrder
 pub mod Entries
+pub mod Front
