@@ -93,7 +93,7 @@ module _ (bytes : List ℕ) (tensors room : ℕ) where
   unfolding readOf
   read-of r =
       let none : NoneHolds (readCauses bytes tensors room) =
-          (le-ltb (length bytes) (planBytes 0) (omega (arith, r .whole)), (ap not (number-of _ _ (r .count-is)), (ap not (eq-eqb _ _ (r .whole)), (le-ltb _ _ (r .few), (le-ltb _ _ (r .roomy), tt))))) in
+      (le-ltb (length bytes) (planBytes 0) (omega (arith, r .whole)), (ap not (number-of _ _ (r .count-is)), (ap not (eq-eqb _ _ (r .whole)), (le-ltb _ _ (r .few), (le-ltb _ _ (r .roomy), tt))))) in
       follows (readCauses bytes tensors room) (doneWith 0) none
 
 module _ (bytes : List ℕ) (tensors : ℕ) (offsets : List ℤ) where

@@ -57,9 +57,13 @@ offsetsRead bytes tensors offsets =
 
 -- ---- writing
 
--- The plan's words; the first two "are .. written as 1 and 1".
+-- The words before n offsets; the first two "are .. written as 1 and 1".
+abbrev pub planHead : ℕ → List ℤ
+planHead n = pos 1 ∷ pos 1 ∷ pos n ∷ []
+
+-- The plan's words.
 abbrev pub planWords : List ℤ → List ℤ
-planWords offsets = pos 1 ∷ pos 1 ∷ pos (length offsets) ∷ offsets
+planWords offsets = planHead (length offsets) ++ offsets
 
 -- "Writing: 2, then 3 if the lent bytes are too few".
 abbrev pub writeCauses : List ℤ → ℕ → List (Cause Answer)

@@ -63,7 +63,7 @@ module _ (offsets : List ℤ) (bytes : List ℕ) (table : List ℤ) (fit : AllFi
       let written : bytesWritten offsets bytes ≡ whole = done-written offsets bytes z in
       let long : length (take (planBytes (length offsets)) whole) ≡ planBytes (length offsets) = length-take-le (planBytes (length offsets)) whole (omega (arith, whole-length, w .roomy)) in
       let d : readOf (take (planBytes (length offsets)) whole) (length offsets) (length table) ≡ doneWith 0 =
-          read-of _ _ _ record { count-is = count-back; whole = long; few = w .few; roomy = room } in
+      read-of _ _ _ record { count-is = count-back; whole = long; few = w .few; roomy = room } in
       record {
         done = rw written d;
         same = rw written (done-read _ _ _ (ap numberOf d) ∙ ap (λ (xs : List ℤ). xs ++ drop (length offsets) table) offsets-back);
@@ -87,10 +87,10 @@ put-front bytes lent n small whole room =
     ext-getD 0 (withWords lent 0 (wordsFrom bytes 0 n)) (bytes ++ drop (length bytes) lent)
     (put-length lent 0 (wordsFrom bytes 0 n) ∙ sym (front-length bytes lent refl room))
     (λ i h.
-        ⊎-elim
-        (λ (l : i < length bytes). bytes-come-back lent bytes 0 n i small (omega arith) (omega arith) (omega arith) ∙ sym (front-at bytes lent refl 0 i l))
-        (λ (l : length bytes ≤ i). put-elsewhere lent 0 i (wordsFrom bytes 0 n) (inr (omega (arith, words-length bytes 0 n))) ∙ sym (front-past bytes lent refl 0 i l))
-        (lt-or-le i (length bytes)))
+    ⊎-elim
+    (λ (l : i < length bytes). bytes-come-back lent bytes 0 n i small (omega arith) (omega arith) (omega arith) ∙ sym (front-at bytes lent refl 0 i l))
+    (λ (l : length bytes ≤ i). put-elsewhere lent 0 i (wordsFrom bytes 0 n) (inr (omega (arith, words-length bytes 0 n))) ∙ sym (front-past bytes lent refl 0 i l))
+    (lt-or-le i (length bytes)))
 
 module _ (bytes : List ℕ) (tensors : ℕ) (table : List ℤ) (small : (i : ℕ) → getD bytes i 0 < 256) (z : readOf bytes tensors (length table) .number ≡ 0)
     (version : wordOf bytes 0 ≡ pos 1) (subgraphs : wordOf bytes 4 ≡ pos 1) (lent : List ℕ) (room : length bytes ≤ length lent) where
@@ -111,7 +111,7 @@ module _ (bytes : List ℕ) (tensors : ℕ) (table : List ℤ) (small : (i : ℕ
   writes-back =
       let long = words-length bytes offsetsPlace tensors in
       let d : writeOf (wordsFrom bytes offsetsPlace tensors) (length lent) ≡ doneWith 0 =
-          write-of _ _ record { few = omega (arith, long, r .few); roomy = omega (arith, long, r .whole) } in
+      write-of _ _ record { few = omega (arith, long, r .few); roomy = omega (arith, long, r .whole) } in
       record {
         done = rw plan-is d;
         same = rw plan-is (done-written _ _ (ap numberOf d) ∙ rw words-are (put-front bytes lent (suc (suc (suc tensors))) small (omega (arith, r .whole)) room));

@@ -10,8 +10,8 @@ use native.Mathlib.Omega.{arith}
 use borrow.Author.Tests.{lt-ltb, le-ltb}
 use lib.Dec.{ltb}
 use lib.IntN.{ℤ, pos, negsuc}
-use lib.ListN.{length, getD, set, length-set, List·getD-eq-default}
-use lib.Seq.{getD-set-same, getD-set-other, set-getD, set-out}
+use lib.ListN.{length, getD, take, drop, set, length-set, List·getD-eq-default}
+use lib.Seq.{getD-set-same, getD-set-other, set-getD, set-out, drop-set-add, take-set-le}
 use lib.Signed.{mag}
 use Rattle.word_bytes.specs.Bytes.{littleEndian, withLittleEndian, signedWord, unsignedWord, wordOf, withWord}
 
@@ -107,6 +107,18 @@ unfolding withLittleEndian
 unput zero bytes at n l = refl
 unput (suc k) bytes at n l = rw (set-out bytes at (n % 256) l) (unput k bytes (at + 1) (n / 256) (omega arith))
 
+behind : (k : ℕ) (bytes : List ℕ) (m at n : ℕ) → drop m (withLittleEndian bytes (m + at) k n) ≡ withLittleEndian (drop m bytes) at k n
+unfolding withLittleEndian
+behind zero bytes m at n = refl
+behind (suc k) bytes m at n =
+    rw (add-assoc m at 1) (behind k (set bytes (m + at) (n % 256)) m (at + 1) (n / 256) ∙ rw (drop-set-add m bytes at (n % 256)))
+
+in-front : (k : ℕ) (bytes : List ℕ) (m at n : ℕ) → m ≤ at → take m (withLittleEndian bytes at k n) ≡ take m bytes
+unfolding withLittleEndian
+in-front zero bytes m at n l = refl
+in-front (suc k) bytes m at n l =
+    in-front k (set bytes at (n % 256)) m (at + 1) (n / 256) (omega arith) ∙ take-set-le m bytes at (n % 256) l
+
 unsigned-fits : (z : ℤ) → mag z < 2 ^ 31 → unsignedWord z < 2 ^ 32
 unfolding unsignedWord
 unsigned-fits (pos n) h = omega arith
@@ -164,3 +176,13 @@ word-past bytes at l = word-same bytes [] at 0 (λ i h. List·getD-eq-default by
 pub put-past : (bytes : List ℕ) (at : ℕ) (z : ℤ) → length bytes ≤ at → withWord bytes at z ≡ bytes
 unfolding withWord
 put-past bytes at z l = unput 4 bytes at (unsignedWord z) l
+
+-- A word put behind the first m bytes is put into what stands behind them,
+pub put-behind : (bytes : List ℕ) (m at : ℕ) (z : ℤ) → drop m (withWord bytes (m + at) z) ≡ withWord (drop m bytes) at z
+unfolding withWord
+put-behind bytes m at z = behind 4 bytes m at (unsignedWord z)
+
+-- and the first m stay.
+pub front-stays : (bytes : List ℕ) (m at : ℕ) (z : ℤ) → m ≤ at → take m (withWord bytes at z) ≡ take m bytes
+unfolding withWord
+front-stays bytes m at z l = in-front 4 bytes m at (unsignedWord z) l

@@ -18,10 +18,10 @@ all-read bytes table {n} e =
     let kept = replaced-length (λ k. wordOf bytes (k * 4)) n table in
     ext-getD (pos 0) (replaced (λ k. wordOf bytes (k * 4)) n table) (wordsFrom bytes 0 (length table)) (kept ∙ sym (words-length bytes 0 (length table)))
     (λ k h.
-        let l : k < length table = omega (arith, kept) in
-        replaced-at (λ k. wordOf bytes (k * 4)) n table (pos 0) k (omega arith) (omega arith)
-        ∙ ap (wordOf bytes) (omega arith)
-        ∙ sym (words-at bytes 0 (length table) k l))
+    let l : k < length table = omega (arith, kept) in
+    replaced-at (λ k. wordOf bytes (k * 4)) n table (pos 0) k (omega arith) (omega arith)
+    ∙ ap (wordOf bytes) (omega arith)
+    ∙ sym (words-at bytes 0 (length table) k l))
 
 -- One more word is put, and the rest is left to be put behind it.
 pub one-put : (bytes whole : List ℕ) (table : List ℤ) (k : ℕ) → k < length table → withWords bytes (k * 4) (drop k table) ≡ whole

@@ -1,18 +1,18 @@
 -- What is put into bytes is what is read from them, for lists of words: a list that was put comes back, words that were read and are put again copy
 -- their bytes, and no other byte changes.
-use Prim.Native.Nat.{ℕ, zero, suc, _+_, _*_, _^_, _≤_, _<_}
-use mathlib.Core.List.{List, [], _∷_, _++_}
+use Prim.Native.Nat.{ℕ, zero, suc, _+_, _-_, _*_, _^_, _≤_, _<_}
+use mathlib.Core.List.{List, [], _∷_, _++_, append-nil}
 use mathlib.Core.Logic.{_⊎_, inl, inr, ⊎-elim}
 use mathlib.Core.Path.{_≡_, refl, _∙_, ap}
 use native.Mathlib.Nat.{add-zero, le-of-suc-le-suc}
 use native.Mathlib.Omega.{arith}
 use lib.IntN.{ℤ, pos}
-use lib.ListN.{length, getD, take, drop}
-use lib.Seq.{getD-take, getD-drop, ext-getD}
+use lib.ListN.{length, getD, take, drop, take-append-drop, length-drop, drop-of-length-le}
+use lib.Seq.{getD-take, getD-drop, ext-getD, take-all}
 use lib.Signed.{mag}
 use Rattle.bounded.specs.Boolean.{lt-or-le}
 use Rattle.word_bytes.specs.Bytes.{wordOf, withWord}
-use Rattle.word_bytes.specs.BytesComeBack.{word-just-put, word-elsewhere, word-same, byte-elsewhere, byte-copied, length-kept}
+use Rattle.word_bytes.specs.BytesComeBack.{word-just-put, word-elsewhere, word-same, byte-elsewhere, byte-copied, put-behind, front-stays, length-kept}
 use Rattle.word_lists.specs.WordLists.{wordsFrom, withWords}
 
 -- Every word of the list is one of 32 bits.
@@ -55,6 +55,10 @@ words-of-rest bytes m n =
     words-same (drop m bytes) bytes 0 m n
     (λ k h. word-same (drop m bytes) bytes (0 + k * 4) (m + k * 4) (λ i g. getD-drop m bytes (0 + k * 4 + i) 0 ∙ ap (λ (j : ℕ). getD bytes j 0) (omega arith)))
 
+-- So the words of a part of the bytes, from a place to their end, are those from that place on.
+pub words-of-part : (bytes : List ℕ) (m n : ℕ) → wordsFrom (take (length bytes - m) (drop m bytes)) 0 n ≡ wordsFrom bytes m n
+words-of-part bytes m n = rw (take-all (length bytes - m) (drop m bytes) (simp length-drop (omega arith))) (words-of-rest bytes m n)
+
 -- ---- what is put
 
 -- Putting words changes no length,
@@ -77,6 +81,22 @@ unfolding withWords
 put-both bytes at [] ws = ap (λ (k : ℕ). withWords bytes k ws) (omega arith)
 put-both bytes at (v ∷ vs) ws =
     put-both (withWord bytes at v) (at + 4) vs ws ∙ ap (λ (k : ℕ). withWords (withWords (withWord bytes at v) (at + 4) vs) k ws) (omega arith)
+
+-- Words put into what stands behind the first m bytes are put behind those.
+pub put-behind-front : (bytes : List ℕ) (m at : ℕ) (ws : List ℤ) → take m bytes ++ withWords (drop m bytes) at ws ≡ withWords bytes (m + at) ws
+unfolding withWords
+put-behind-front bytes m at [] = take-append-drop m bytes
+put-behind-front bytes m at (w ∷ ws) =
+    rw (← front-stays bytes m (m + at) w (omega arith), ← put-behind bytes m at w)
+    (put-behind-front (withWord bytes (m + at) w) m (at + 4) ws ∙ ap (λ (k : ℕ). withWords (withWord bytes (m + at) w) k ws) (omega arith))
+
+-- So words put into a part of the bytes, from a place to their end, are put from that place on.
+pub put-of-part : (bytes : List ℕ) (m : ℕ) (ws : List ℤ)
+    → take m bytes ++ (withWords (take (length bytes - m) (drop m bytes)) 0 ws ++ drop (length bytes - m) (drop m bytes)) ≡ withWords bytes m ws
+put-of-part bytes m ws =
+    let long : length (drop m bytes) ≤ length bytes - m = simp length-drop (omega arith) in
+    rw (take-all (length bytes - m) (drop m bytes) long, drop-of-length-le (drop m bytes) long, append-nil)
+    (put-behind-front bytes m 0 ws ∙ rw add-zero)
 
 -- ---- both
 

@@ -43,7 +43,7 @@ loop-again c =
     let at = c .before .before .before .before .before .before in
     let table = now (at .before .before .args .table) in
     let word : c .before .before .put-word-of .last .0 ≡ withWord (at .loop .bytes) (at .loop .number * 4) (getD table (at .loop .number) (pos 0)) =
-        c .before .before .put-word-of .ensures ∙ ap (withWord (at .loop .bytes) (at .loop .number * 4)) (read (getD table (at .loop .number) (pos 0)) (c .before .before .before .put-word-of-arg2 .given)) in
+    c .before .before .put-word-of .ensures ∙ ap (withWord (at .loop .bytes) (at .loop .number * 4)) (read (getD table (at .loop .number) (pos 0)) (c .before .before .before .put-word-of-arg2 .given)) in
     (rw word (one-put _ _ table (at .loop .number) (omega arith) (at .loop .inv .0)), omega arith, ap length word ∙ length-kept _ _ _ ∙ at .loop .inv .2)
 
 same-length : tie.Need-same-length Inv-loop μ-loop
