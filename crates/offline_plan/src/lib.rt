@@ -32,8 +32,8 @@ fn check(bytes: &[u8], tensors: u32, room: usize) -> Answer
     ensures { λ r. ⌜ r ≡ readOf (now (bytes .entry)) tensors room ⌝ }
 {
     let count = tensors as usize;
-    let other_count = !is_for(bytes, tensors);
     let other_length = bytes.len() != OFFSETS_PLACE + count * WORD_BYTES;
+    let other_count = !is_for(bytes, tensors);
     let too_many = GREATEST_ROWS < count;
     if bytes.len() < OFFSETS_PLACE {
         return Answer::refused(Answer::WRONG_LENGTH);

@@ -25,14 +25,14 @@ AllFit ws = (k : ℕ) → k < length ws → mag (getD ws k (pos 0)) < 2 ^ 31
 pub words-length : (bytes : List ℕ) (at n : ℕ) → length (wordsFrom bytes at n) ≡ n
 unfolding wordsFrom
 words-length bytes at zero = refl
-words-length bytes at (suc n) = ap suc (words-length bytes (at + 4) n)
+words-length bytes at (suc n) = ap suc (words-length bytes _ n)
 
 -- each where it stands.
 pub words-at : (bytes : List ℕ) (at n k : ℕ) → k < n → getD (wordsFrom bytes at n) k (pos 0) ≡ wordOf bytes (at + k * 4)
 unfolding wordsFrom
 words-at bytes at zero k h = absurd (omega arith)
 words-at bytes at (suc n) zero h = ap (wordOf bytes) (omega arith)
-words-at bytes at (suc n) (suc k) h = words-at bytes (at + 4) n k (le-of-suc-le-suc h) ∙ ap (wordOf bytes) (omega arith)
+words-at bytes at (suc n) (suc k) h = words-at bytes _ n k (le-of-suc-le-suc h) ∙ ap (wordOf bytes) (omega arith)
 
 -- Words that agree one by one are read alike.
 pub words-same : (bytes others : List ℕ) (at place n : ℕ) → ((k : ℕ) → k < n → wordOf bytes (at + k * 4) ≡ wordOf others (place + k * 4))

@@ -12,14 +12,14 @@ use Rattle.offline_rule.specs.OfflinePlan.{countPlace, isNumber}
 use Rattle.offline_plan.proofs.check.Statement.{statement}
 use Rattle.offline_plan.proofs.check.Tie as tie
 
-is-for-requires : tie.Need-is-for-requires
-is-for-requires c κs = search needs
-
 mul-other-length : tie.Need-mul-other-length
 mul-other-length c = search needs
 
 add-other-length : tie.Need-add-other-length
 add-other-length c = search needs
+
+is-for-requires : tie.Need-is-for-requires
+is-for-requires c κs = search needs
 
 refused-requires : tie.Need-refused-requires
 refused-requires c κs = search needs
@@ -74,9 +74,9 @@ pub check-spec : {M : Type 1} → statement M
 check-spec =
     tie.close
     (tie.spec
-    is-for-requires
     mul-other-length
     add-other-length
+    is-for-requires
     refused-requires
     returns
     refused-requires-2
