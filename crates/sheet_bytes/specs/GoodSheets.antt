@@ -76,3 +76,20 @@ module _ (sheet : List ℕ) where
   -- As a request table the rows are as many as the sheet counts.
   pub rows-are : rows (sheetRows sheet) ≡ rowCount sheet
   rows-are = omega (arith, words-length sheet 11 (rowCount sheet * 4))
+
+  -- A table was read: the sheet is well formed, and these are its words and its space.
+  pub requests-say : (words space : ℕ) → sheetOf sheet ≡ Requests words space
+      → (wellFormed sheet ≡ true) × (words ≡ rowCount sheet * 4) × (space ≡ sheetSpace sheet)
+  requests-say words space e = go (wellFormed sheet) refl
+    where
+      go : (b : Bool) → wellFormed sheet ≡ b → (wellFormed sheet ≡ true) × (words ≡ rowCount sheet * 4) × (space ≡ sheetSpace sheet)
+      go true w = let r = good-read w in (w, (cc), (cc))
+      go false w = let r = bad-read w in absurd (let z : _≡_ {A = ℕ} 0 1 = cc in omega arith)
+
+  -- None was read: it is not well formed.
+  pub bad-says : sheetOf sheet ≡ Bad → wellFormed sheet ≡ false
+  bad-says e = go (wellFormed sheet) refl
+    where
+      go : (b : Bool) → wellFormed sheet ≡ b → wellFormed sheet ≡ false
+      go true w = let r = good-read w in absurd (let z : _≡_ {A = ℕ} 0 1 = cc in omega arith)
+      go false w = w

@@ -1,0 +1,47 @@
+-- `make_sheet::text::find_blank` meets its contract: the place stays between the start and the end.
+use Prim.Native.Nat.{_≤_, _-_}
+use native.Mathlib.Omega.{arith}
+use lib.ListN.{length}
+use Rattle.make_sheet.proofs.text.find_blank.Statement.{statement}
+use Rattle.make_sheet.proofs.text.find_blank.Tie as tie
+
+abbrev Inv-loop : tie.InvT-loop
+Inv-loop line start blank at₀ at = (start ≤ at) × (at ≤ length line)
+
+abbrev μ-loop : tie.MeasureT-loop
+μ-loop line start blank at₀ at = length line - at
+
+loop-holds : tie.Need-loop-holds Inv-loop μ-loop
+loop-holds c = omega arith
+
+shared-slice-read-byte : tie.Need-shared-slice-read-byte Inv-loop μ-loop
+shared-slice-read-byte c = omega arith
+
+returns : tie.Need-returns Inv-loop μ-loop
+returns c = omega arith
+
+add-at : tie.Need-add-at Inv-loop μ-loop
+add-at c = omega arith
+
+loop-less : tie.Need-loop-less Inv-loop μ-loop
+loop-less c = omega arith
+
+loop-again : tie.Need-loop-again Inv-loop μ-loop
+loop-again c = omega arith
+
+returns-2 : tie.Need-returns-2 Inv-loop μ-loop
+returns-2 c = omega arith
+
+pub find-blank-spec : {M : Type 1} → statement M
+find-blank-spec =
+    tie.close
+    (tie.spec
+    Inv-loop
+    μ-loop
+    loop-holds
+    shared-slice-read-byte
+    returns
+    add-at
+    loop-less
+    loop-again
+    returns-2)

@@ -1,0 +1,55 @@
+// Makes a request sheet of a text. A line of it is `space N` or a row, `size first last offset`, and `#` starts a comment. The sheet goes to standard
+// output; for a text that is none, one line goes there that tells what is wrong and where. What the numbers mean is left to the planner.
+use libc::STDIN_FILENO;
+use refusal::Reason;
+use sheet::Step;
+
+mod number;
+mod refusal;
+mod sheet;
+mod text;
+
+// Writes the text's sheet, or the first refusal. Even the empty text has a line, so that there is one to name.
+fn make(text: &[u8]) {
+    let mut rows = [0u8; sheet::GREATEST_BYTES];
+    let mut progress = sheet::start();
+    let mut line = 1;
+    let mut start = 0;
+    loop {
+        let end = text::find(text, start, b'\n');
+        match sheet::with_line(progress, text::line(text, start, end), &mut rows) {
+            Step::Taken(next) => progress = next,
+            Step::Refused(reason) => {
+                refusal::tell(line, reason);
+                return;
+            }
+        }
+        if text.len() <= end + 1 {
+            break;
+        }
+        start = end + 1;
+        line += 1;
+    }
+    if progress.given {
+        sheet::write(progress, rows);
+    } else {
+        refusal::tell(line, Reason::NoSpace);
+    }
+}
+
+// Whether standard input has a byte more.
+fn has_more() -> bool {
+    let mut byte = [0u8; 1];
+    io::read_full(STDIN_FILENO, &mut byte) == 1
+}
+
+// A text that the buffer does not hold is refused before a line is read: the last of them would be cut, and might pass for another.
+fn main() {
+    let mut buffer = io::large_buffer();
+    let length = io::read_full(STDIN_FILENO, &mut buffer);
+    if (length == buffer.len()) && has_more() {
+        refusal::tell(text::count(&buffer, b'\n') + 1, Reason::TooLong);
+        return;
+    }
+    make(&buffer[..length]);
+}

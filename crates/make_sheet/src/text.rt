@@ -1,0 +1,94 @@
+// Lines and words of a text.
+ghost use Prim.Native.Nat.{_≤_};
+ghost use lib.ListN.{length};
+
+// How often the byte stands in the text.
+pub(crate) fn count(text: &[u8], byte: u8) -> usize
+    ensures { λ r. ⌜ r ≤ length (now (text .entry)) ⌝ }
+{
+    let mut at = 0;
+    let mut found = 0;
+    while at < text.len() {
+        if text[at] == byte {
+            found += 1;
+        }
+        at += 1;
+    }
+    found
+}
+
+// The first place from a start on at which the byte stands, or else the text's end.
+pub(crate) fn find(text: &[u8], start: usize, byte: u8) -> usize
+    requires { ⌜ start ≤ length (now text) ⌝ }
+    ensures { λ r. ⌜ start ≤ r ⌝ }
+    ensures { λ r. ⌜ r ≤ length (now (text .entry)) ⌝ }
+{
+    let mut at = start;
+    while at < text.len() {
+        if text[at] == byte {
+            return at;
+        }
+        at += 1;
+    }
+    at
+}
+
+// Where the line from start to end ends without its carriage return. Only one before a line feed belongs to the line's end: elsewhere it is a
+// byte like any other, and no number has one.
+fn line_end(text: &[u8], start: usize, end: usize) -> usize
+    requires { ⌜ start ≤ end ⌝ }
+    requires { ⌜ end ≤ length (now text) ⌝ }
+    ensures { λ r. ⌜ start ≤ r ⌝ }
+    ensures { λ r. ⌜ r ≤ length (now (text .entry)) ⌝ }
+{
+    if start < end {
+        let last = end - 1;
+        if end < text.len() {
+            if text[last] == b'\r' {
+                return last;
+            }
+        }
+    }
+    end
+}
+
+// The line from start to end, without its comment.
+pub(crate) fn line(text: &[u8], start: usize, end: usize) -> &[u8]
+    requires { ⌜ start ≤ end ⌝ }
+    requires { ⌜ end ≤ length (now text) ⌝ }
+{
+    let end = line_end(text, start, end);
+    let line = &text[start..end];
+    let comment = find(line, 0, b'#');
+    &line[..comment]
+}
+
+// The first place from a start on that is a blank or a tab, or, where `blank` is false, that is neither; or else the line's end.
+fn find_blank(line: &[u8], start: usize, blank: bool) -> usize
+    requires { ⌜ start ≤ length (now line) ⌝ }
+    ensures { λ r. ⌜ start ≤ r ⌝ }
+    ensures { λ r. ⌜ r ≤ length (now (line .entry)) ⌝ }
+{
+    let mut at = start;
+    while at < line.len() {
+        let byte = line[at];
+        if ((byte == b' ') | (byte == b'\t')) == blank {
+            return at;
+        }
+        at += 1;
+    }
+    at
+}
+
+// The word of that number, the first being word 0; empty if the line has fewer.
+pub(crate) fn word(line: &[u8], number: usize) -> &[u8] {
+    let mut start = find_blank(line, 0, false);
+    let mut passed = 0;
+    while passed < number {
+        let end = find_blank(line, start, true);
+        start = find_blank(line, end, false);
+        passed += 1;
+    }
+    let end = find_blank(line, start, true);
+    &line[start..end]
+}

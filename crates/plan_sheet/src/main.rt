@@ -1,0 +1,40 @@
+// Plans a request sheet: standard input to standard output. All that matters is in `request_sheet`.
+ghost use Prim.Native.Nat.{_+_, _*_};
+ghost use mathlib.Core.Path.{_≡_};
+ghost use lib.ListN.{length};
+ghost use Rattle.plan_text.specs.Text.{greatestText};
+use libc::STDIN_FILENO;
+use libc::STDOUT_FILENO;
+use request_sheet::GREATEST_SHEET;
+use request_sheet::GREATEST_TEXT;
+use request_sheet::Reply;
+
+// One byte more than the longest sheet has, so that a longer input is seen to be longer.
+const INPUT_BYTES: usize = GREATEST_SHEET + 1;
+
+fn no_input() -> [u8; INPUT_BYTES] {
+    [0; INPUT_BYTES]
+}
+
+fn no_text() -> [u8; GREATEST_TEXT]
+    ensures { λ r. ⌜ greatestText ≡ length r ⌝ }
+{
+    [0; GREATEST_TEXT]
+}
+
+// Writes the reply to a sheet.
+fn answer(sheet: &[u8]) {
+    let mut text = no_text();
+    match request_sheet::reply(sheet, &mut text) {
+        Reply::Text(count) => {
+            io::write_all(STDOUT_FILENO, &text[..count]);
+        }
+        Reply::NoRoom => {}
+    }
+}
+
+fn main() {
+    let mut input = no_input();
+    let length = io::read_full(STDIN_FILENO, &mut input);
+    answer(&input[..length]);
+}

@@ -1,0 +1,27 @@
+-- A text depends on the offsets of its rows alone, and a refusal's on none.
+use Prim.Native.Nat.{ℕ, zero, suc, _<_}
+use mathlib.Core.List.{List, _++_}
+use mathlib.Core.Logic.{⊎-elim}
+use mathlib.Core.Path.{_≡_, refl, sym, _∙_, ap, ap₂}
+use native.Mathlib.Omega.{arith}
+use Rattle.answer.specs.Answer.{done}
+use Rattle.answer.specs.declared.Answer.{Answer}
+use Rattle.bounded.specs.Boolean.{same-or-not}
+use Rattle.plan_text.specs.Text.{headLine, rowLine, rowLines, planText, refusedText, answerText}
+use Rattle.plan_text.specs.TextCases.{done-text, refused-text}
+
+-- Offsets that agree on the rows give the same lines.
+pub rows-same : (f g : ℕ → ℕ) (n : ℕ) → ((r : ℕ) → r < n → f r ≡ g r) → rowLines f n ≡ rowLines g n
+unfolding rowLines
+rows-same f g zero h = refl
+rows-same f g (suc n) h =
+    ap₂ (λ (xs ys : List ℕ). xs ++ ys) (rows-same f g n (λ r l. h r (omega arith))) (ap (rowLine n) (h n (omega arith)))
+
+-- Offsets that agree on the rows of a done answer give it the same text.
+pub answer-same : (x : Answer) (f g : ℕ → ℕ) (n : ℕ) → (x .number ≡ done → (r : ℕ) → r < n → f r ≡ g r) → answerText x f n ≡ answerText x g n
+unfolding planText
+answer-same x f g n h =
+    ⊎-elim
+    (λ e. done-text x f n e ∙ ap (λ (xs : List ℕ). headLine (x .need) ++ xs) (rows-same f g n (h e)) ∙ sym (done-text x g n e))
+    (λ e. refused-text x f n e ∙ sym (refused-text x g n e))
+    (same-or-not (x .number) done)

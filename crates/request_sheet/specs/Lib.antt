@@ -1,0 +1,4 @@
+pub mod Reply
+pub mod Replies
+pub mod Outcomes
+pub mod SheetA

@@ -1,0 +1,88 @@
+-- The reply as the code comes to it: no room, or a text that stands in the lent bytes, that of a table or `bad sheet`.
+use Prim.Native.Nat.{ℕ, _*_, _<_, _≤_}
+use mathlib.Core.Bool.{Bool, true, false}
+use mathlib.Core.List.{List, _++_}
+use mathlib.Core.Logic.{_⊎_, inl, inr}
+use mathlib.Core.Path.{_≡_, refl, sym, _∙_, ap}
+use native.Mathlib.Omega.{arith}
+use borrow.Author.Tests.{lt-ltb, le-ltb, le-leb}
+use lib.Dec.{ltb, leb}
+use lib.IntN.{ℤ, pos}
+use lib.ListN.{length, getD, drop, length-append, length-drop}
+use Rattle.answer.specs.Answer.{numberOf}
+use Rattle.answer.specs.declared.Answer.{Answer}
+use Rattle.bounded.specs.Boolean.{both-hold, lt-or-le}
+use Rattle.bounded.specs.Replaced.{replaced-at}
+use Rattle.greedy_rule.specs.DonePlans.{done-plan}
+use Rattle.greedy_rule.specs.Greedy.{greedyPlan}
+use Rattle.greedy_rule.specs.Plan.{planOf, plannedTable}
+use Rattle.plan_text.specs.SameOffsets.{answer-same}
+use Rattle.plan_text.specs.Text.{answerText, badSheetText, greatestText, offsetIn}
+use Rattle.plan_text.specs.Written.{hasRoom, writtenLength, writtenInto}
+use Rattle.request_table.specs.Limits.{grid, greatestRows}
+use Rattle.request_table.specs.Table.{rows}
+use Rattle.sheet_bytes.specs.Sheet.{wellFormed, sheetRows, sheetSpace}
+use Rattle.words.specs.Words.{natural, wordAt}
+use Rattle.request_sheet.specs.Reply.{tableText, replyText, replyOf, textAfter}
+use Rattle.request_sheet.specs.declared.outcome.Reply.the-variants.{Text, NoRoom}
+
+-- ---- what is written
+
+-- A text stands in lent bytes: so many of them are the text, and the rest is as it was.
+pub record Stands (text before after : List ℕ) (count : ℕ) : Type 0 where
+  pub count-is : count ≡ length text
+  pub bytes-are : after ≡ text ++ drop (length text) before
+
+-- Where there is room, what is written stands.
+pub written : {n room count : ℕ} {text before after : List ℕ} → n ≤ greatestRows → greatestText ≤ room
+    → count ≡ writtenLength (hasRoom n room) text → after ≡ writtenInto (hasRoom n room) text before → Stands text before after count
+unfolding hasRoom writtenLength writtenInto
+written {n} {room} few roomy p q =
+    let yes : hasRoom n room ≡ true = both-hold (leb n greatestRows) (leb greatestText room) (le-leb n greatestRows few) (le-leb greatestText room roomy) in
+    record { count-is = p ∙ rw (yes, writtenLength); bytes-are = q ∙ rw (yes, writtenInto) }
+
+-- The planner's table and answer are told as the table's text.
+pub planned-told : (t : List ℤ) (space : ℕ) (lent offsets : List ℤ) (answer : Answer) → length lent ≡ rows t → answer ≡ planOf grid t space (length lent)
+    → offsets ≡ plannedTable grid t space lent → answerText answer (offsetIn offsets) (rows t) ≡ tableText t space
+unfolding tableText natural offsetIn
+planned-told t space lent offsets answer long p q =
+    answer-same answer (offsetIn offsets) (greedyPlan grid t) (rows t) told
+    ∙ ap (λ (x : Answer). answerText x (greedyPlan grid t) (rows t)) (p ∙ ap (planOf grid t space) long)
+  where
+    told : answer .number ≡ 0 → (r : ℕ) → r < rows t → offsetIn offsets r ≡ greedyPlan grid t r
+    told z r l = ap natural (ap (λ (xs : List ℤ). getD xs r (pos 0)) q ∙ done-plan grid t space lent (sym (ap numberOf p) ∙ z) .entries r l)
+
+-- ---- the reply
+
+module _ (sheet text : List ℕ) where
+  -- Too few bytes were lent: there is no room, and nothing changes.
+  pub no-room : length text < greatestText → (NoRoom ≡ replyOf sheet (length text)) × (text ≡ textAfter sheet text)
+  unfolding replyOf textAfter
+  no-room l = let yes = lt-ltb (length text) greatestText l in (rw (yes, replyOf), rw (yes, textAfter))
+
+  -- Else the text that stands is the reply.
+  pub reply-stands : {count : ℕ} {after : List ℕ} → greatestText ≤ length text → Stands (replyText sheet) text after count
+      → (Text count ≡ replyOf sheet (length text)) × (after ≡ textAfter sheet text)
+  unfolding replyOf textAfter
+  reply-stands l s = let no = le-ltb (length text) greatestText l in (ap Text (s .count-is) ∙ rw (no, replyOf), s .bytes-are ∙ rw (no, textAfter))
+
+-- The text of a well-formed sheet is its table's,
+pub table-reply : (sheet : List ℕ) → wellFormed sheet ≡ true → tableText (sheetRows sheet) (sheetSpace sheet) ≡ replyText sheet
+unfolding replyText
+table-reply sheet e = rw (e, replyText)
+
+-- and of any other `bad sheet`.
+pub bad-reply : (sheet : List ℕ) → wellFormed sheet ≡ false → badSheetText ≡ replyText sheet
+unfolding replyText
+bad-reply sheet e = rw (e, replyText)
+
+-- A text that was told lies in the lent bytes, since these are as long as they were.
+pub text-within : (sheet text : List ℕ) (count : ℕ) → replyOf sheet (length text) ≡ Text count → length (textAfter sheet text) ≡ length text → count ≤ length text
+text-within sheet text count e kept = go (lt-or-le (length text) greatestText)
+  where
+    go : (length text < greatestText) ⊎ (greatestText ≤ length text) → count ≤ length text
+    go (inl l) = let n = no-room sheet text l .0 in absurd (let z : _≡_ {A = ℕ} 0 1 = cc in omega arith)
+    go (inr l) =
+        let s = reply-stands sheet text l record { count-is = refl; bytes-are = refl } in
+        let c : count ≡ length (replyText sheet) = let n = s .0 in cc in
+        omega (arith, simp (length-append, length-drop) at (ap length (s .1)))

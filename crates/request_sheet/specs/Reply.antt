@@ -1,0 +1,38 @@
+-- The reply to a request sheet (document 01): the program "prints the plan, or `refused N a b need`, or `bad sheet`". A sheet is planned as the table of
+-- its rows in its space, with room for every row. The reading of a sheet (`sheet_bytes`) and the text of an answer (`plan_text`) meet here alone.
+use Prim.Native.Nat.{ℕ}
+use mathlib.Core.Bool.{Bool, true, false}
+use mathlib.Core.List.{List, _++_}
+use lib.Dec.{ltb}
+use lib.IntN.{ℤ}
+use lib.ListN.{length, drop}
+use Rattle.answer.specs.Answer.{done, tableTooShort}
+use Rattle.greedy_rule.specs.Greedy.{greedyPlan}
+use Rattle.greedy_rule.specs.Plan.{planOf}
+use Rattle.plan_text.specs.Text.{answerText, badSheetText, greatestText}
+use Rattle.request_table.specs.Limits.{grid}
+use Rattle.request_table.specs.Table.{rows}
+use Rattle.sheet_bytes.specs.Sheet.{wellFormed, sheetRows, sheetSpace}
+use Rattle.request_sheet.specs.declared.outcome.Reply.{Reply}
+use Rattle.request_sheet.specs.declared.outcome.Reply.the-variants.{Text, NoRoom}
+
+-- What is told of a table in a space: the planner's answer with room for every row, and where it is done each row's offset.
+unfoldable pub tableText : List ℤ → ℕ → List ℕ
+tableText t space = answerText (planOf grid t space (rows t)) (greedyPlan grid t) (rows t)
+
+-- The text: that of the sheet's rows in its space, or `bad sheet`.
+unfoldable pub replyText : List ℕ → List ℕ
+replyText sheet = elim (wellFormed sheet) [ true ↦ tableText (sheetRows sheet) (sheetSpace sheet) | false ↦ badSheetText ]
+
+-- The answer: no room where the lent bytes are fewer than the longest text has, tested first; else how many bytes the text has.
+unfoldable pub replyOf : List ℕ → ℕ → Reply
+replyOf sheet room = elim (ltb room greatestText) [ true ↦ NoRoom | false ↦ Text (length (replyText sheet)) ]
+
+-- The lent bytes in the end: the text in front and the rest as it was; where there is no room, all stays.
+unfoldable pub textAfter : List ℕ → List ℕ → List ℕ
+textAfter sheet text = elim (ltb (length text) greatestText) [ true ↦ text | false ↦ replyText sheet ++ drop (length (replyText sheet)) text ]
+
+-- "Where an answer is an enum, a definition gives this paper's number": no room is number 3, a text is done.
+unfoldable pub numberOf : Reply → ℕ
+numberOf (Text n) = done
+numberOf NoRoom = tableTooShort

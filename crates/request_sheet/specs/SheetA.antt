@@ -1,0 +1,45 @@
+-- Document 01's own reply, computed: "With the three rows of Sheet A below and space 1,024 the output is exactly" its four lines; "With space 175 it is
+-- `refused 7 0 0 176`." And a sheet of version 2 is bad.
+use Prim.Native.Nat.{ℕ}
+use mathlib.Core.List.{List, [], _∷_, _++_}
+use mathlib.Core.Path.{_≡_, refl}
+use Rattle.alignment.specs.Rounding.{roundedUp}
+use Rattle.bounded.specs.Count.{one, count}
+use Rattle.bounded.specs.First.{firstFrom, firstIn, holdsBelow}
+use Rattle.bounded.specs.Greatest.{greatest}
+use Rattle.bounded.specs.InOrder.{listFrom, rank, atRank, inOrder}
+use Rattle.bounded.specs.Pair.{partner, hasPartner, pairBelow, pairFirst, pairSecond}
+use Rattle.greedy_rule.specs.Greedy.{largerFirst, fixedRows, greedyOrder, greedyPlan}
+use Rattle.greedy_rule.specs.Plan.{fixedCollide, greedyNeed, planOf}
+use Rattle.placement.specs.Placing.{put, free, top, lowest, offsetFor, placing, place}
+use Rattle.plan_text.specs.Decimal.{places, decimal}
+use Rattle.plan_text.specs.Text.{badSheetText, spaced, headLine, rowLine, rowLines, planText, refusedText, answerText}
+use Rattle.request_table.specs.Buffers.{liveTogether, shareByte, collides, endOrZero, need}
+use Rattle.request_table.specs.Table.{request, good}
+use Rattle.sheet_bytes.specs.Sheet.{marked, wellFormed}
+use Rattle.sheet_bytes.specs.SheetExamples.{headOf, rowsOfA, sheetA}
+use Rattle.word_bytes.specs.Bytes.{littleEndian, signedWord, wordOf}
+use Rattle.word_lists.specs.WordLists.{wordsFrom}
+use Rattle.words.specs.Words.{natural, isMinusOne}
+use Rattle.request_sheet.specs.Reply.{tableText, replyText}
+
+-- `head 176`, `0 0`, `1 112`, `2 0`.
+abbrev fourLines : List ℕ
+fourLines =
+    (104 ∷ 101 ∷ 97 ∷ 100 ∷ 32 ∷ 49 ∷ 55 ∷ 54 ∷ 10 ∷ [])
+    ++ (48 ∷ 32 ∷ 48 ∷ 10 ∷ [])
+    ++ (49 ∷ 32 ∷ 49 ∷ 49 ∷ 50 ∷ 10 ∷ [])
+    ++ (50 ∷ 32 ∷ 48 ∷ 10 ∷ [])
+
+-- `refused 7 0 0 176`.
+abbrev refusedLine : List ℕ
+refusedLine = 114 ∷ 101 ∷ 102 ∷ 117 ∷ 115 ∷ 101 ∷ 100 ∷ 32 ∷ 55 ∷ 32 ∷ 48 ∷ 32 ∷ 48 ∷ 32 ∷ 49 ∷ 55 ∷ 54 ∷ 10 ∷ []
+
+-- A space of 175.
+abbrev space175 : List ℕ
+space175 = 175 ∷ 0 ∷ 0 ∷ 0 ∷ []
+
+-- The three sheets and their replies: Sheet A, the same in a space of 175, the same of version 2.
+pub replies : (replyText (sheetA 1) ∷ replyText (headOf 1 ++ space175 ++ rowsOfA) ∷ replyText (sheetA 2) ∷ []) ≡ (fourLines ∷ refusedLine ∷ badSheetText ∷ [])
+unfolding one count firstFrom firstIn holdsBelow greatest listFrom rank atRank inOrder partner hasPartner pairBelow pairFirst pairSecond natural isMinusOne roundedUp liveTogether shareByte collides endOrZero need request good put free top lowest offsetFor placing place largerFirst fixedRows greedyOrder greedyPlan fixedCollide greedyNeed planOf places decimal spaced headLine rowLine rowLines planText refusedText answerText tableText replyText marked wellFormed littleEndian signedWord wordOf wordsFrom
+replies = refl
