@@ -21,6 +21,12 @@ const USE_WORDS: usize = 12300;
 
 const LIFETIMES: usize = 520;
 
+const PLAN_BYTES: usize = 1100;
+
+const SHEET_BYTES: usize = 4200;
+
+const TEXT_BYTES: usize = 6000;
+
 // The script's own fields, over a plan that was read: accesses; arena length; room for byte answers.
 fn run_script(body: &[u8], requests: &[i32], space: u32, offsets: &[i32]) {
     let mut accesses = [0i32; ACCESS_WORDS];
@@ -62,6 +68,36 @@ fn from_uses(body: &[u8]) {
     print::words(b"; lifetimes", lifetimes);
 }
 
+// A plan's bytes; tensors; room for offsets.
+fn read_plan(body: &[u8]) {
+    let mut bytes = [0u8; PLAN_BYTES];
+    let mut lent = [9999i32; OFFSETS];
+    let plan = read::bytes(body, 0, &mut bytes);
+    let offsets = read::lent_words(body, 2, &mut lent);
+    print::answer(offline_plan::read(plan, read::number(body, 1), offsets));
+    print::words(b"; offsets", offsets);
+}
+
+// Offsets; room for bytes.
+fn write_plan(body: &[u8]) {
+    let mut table = [0i32; OFFSETS];
+    let mut lent = [170; PLAN_BYTES];
+    let offsets = read::table(body, 0, &mut table);
+    let bytes = read::lent_bytes(body, 1, &mut lent);
+    print::answer(offline_plan::write(offsets, bytes));
+    print::bytes(b"; bytes", bytes);
+}
+
+// A sheet's bytes; room for text.
+fn reply_to(body: &[u8]) {
+    let mut bytes = [0u8; SHEET_BYTES];
+    let mut lent = [170; TEXT_BYTES];
+    let sheet = read::bytes(body, 0, &mut bytes);
+    let text = read::lent_bytes(body, 1, &mut lent);
+    print::reply(request_sheet::reply(sheet, text));
+    print::bytes(b"; bytes", text);
+}
+
 // What a function of the sections answers and hands back. Opening them takes start; length. The others take head; temp; tail; usable; and two arguments,
 // of which the reset takes none and setting the head one.
 fn operate(function: usize, body: &[u8]) -> Outcome {
@@ -82,6 +118,9 @@ pub(crate) fn call(function: usize, body: &[u8]) {
     match function {
         functions::INSPECT | functions::RUN => judge(function, body),
         functions::FROM_USES => from_uses(body),
+        functions::READ => read_plan(body),
+        functions::WRITE => write_plan(body),
+        functions::REPLY => reply_to(body),
         functions::NONE => print::text(b" not a vector"),
         _ => print::outcome(operate(function, body)),
     }

@@ -20,8 +20,14 @@ pub const RESET_TEMP: usize = 6;
 
 pub const SET_HEAD: usize = 7;
 
+pub const READ: usize = 8;
+
+pub const WRITE: usize = 9;
+
+pub const REPLY: usize = 10;
+
 // How many there are; this stands for a line that is no vector.
-pub const NONE: usize = 8;
+pub const NONE: usize = 11;
 
 // Whether a field keeps to its limit. Words are only counted here, so that their table needs no room for them.
 fn field_fits(field: &[u8], limit: &[u8]) -> bool {
@@ -83,6 +89,9 @@ open:18446744073709551614;18446744073709551614
 allocate_persistent:4294967295;4294967295;4294967295;4294967295;4294967295;4294967295
 allocate_temp:4294967295;4294967295;4294967295;4294967295;4294967295;4294967295
 reset_temp:4294967295;4294967295;4294967295;4294967295;4294967295;4294967295
-set_head:4294967295;4294967295;4294967295;4294967295;4294967295;4294967295",
+set_head:4294967295;4294967295;4294967295;4294967295;4294967295;4294967295
+read:1100*;4294967295;260
+write:260*;1100
+reply:4200*;6000",
     )
 }

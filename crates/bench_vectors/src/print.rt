@@ -4,6 +4,7 @@ ghost use lib.ListN.{length};
 use answer::Answer;
 use arena_sections::Outcome;
 use libc::STDOUT_FILENO;
+use request_sheet::Reply;
 
 pub(crate) fn text(text: &[u8]) {
     io::write_all(STDOUT_FILENO, text);
@@ -49,27 +50,46 @@ pub(crate) fn outcome(outcome: Outcome) {
     );
 }
 
+// The bits of an entry, which tell two entries apart and a negative one from the others.
+fn bits(table: &[i32], at: usize) -> u32 {
+    if table.len() <= at {
+        return 0;
+    }
+    let mut bytes = [0u8; 4];
+    word_bytes::put_word(&mut bytes, 0, table[at]);
+    word_bytes::unsigned32(&bytes, 0)
+}
+
+// The signed number of so many bits. From half on it is negative.
+fn signed(bits: u32) {
+    if bits < 2147483648 {
+        natural(bits as u64);
+        return;
+    }
+    byte(b'-');
+    natural(4294967296 - bits as u64);
+}
+
 // So many copies of a number, in the short form; a single one has no `1*`.
-fn copies(count: usize, number: u32) {
+fn copies(count: usize, bits: u32) {
     byte(b' ');
     if 1 < count {
         natural(count as u64);
         byte(b'*');
     }
-    natural(number as u64);
+    signed(bits);
 }
 
-// A heading, and every entry of a table with a space before it, equal neighbours put together. A negative entry, which no table here has, is told as the
-// greatest number of 32 bits.
+// A heading, and every entry of a table with a space before it, equal neighbours put together.
 pub(crate) fn words(heading: &[u8], table: &[i32]) {
     text(heading);
     let mut count = 0;
     let mut at = 0;
     while at < table.len() {
-        let number = words::natural(table, at);
+        let number = bits(table, at);
         count += 1;
         at += 1;
-        if (at == table.len()) | (words::natural(table, at) != number) {
+        if (at == table.len()) | (bits(table, at) != number) {
             copies(count, number);
             count = 0;
         }
@@ -77,10 +97,10 @@ pub(crate) fn words(heading: &[u8], table: &[i32]) {
 }
 
 // A heading, and every entry of a table of bytes as `words` has it, so that the short form stands in one place.
-fn bytes(heading: &[u8], table: &[u8])
-    requires { ⌜ length (now table) ≤ 4100 ⌝ }
+pub(crate) fn bytes(heading: &[u8], table: &[u8])
+    requires { ⌜ length (now table) ≤ 6000 ⌝ }
 {
-    let mut wide = [0i32; 4100];
+    let mut wide = [0i32; 6000];
     let mut at = 0;
     while at < table.len() {
         wide[at] = table[at] as i32;
@@ -91,9 +111,20 @@ fn bytes(heading: &[u8], table: &[u8])
 
 // What a script left in its byte answers and in its arena.
 pub(crate) fn left(answers: &[u8], arena: &[u8])
-    requires { ⌜ length (now answers) ≤ 4100 ⌝ }
-    requires { ⌜ length (now arena) ≤ 4100 ⌝ }
+    requires { ⌜ length (now answers) ≤ 6000 ⌝ }
+    requires { ⌜ length (now arena) ≤ 6000 ⌝ }
 {
     bytes(b"; bytes", answers);
     bytes(b"; arena", arena);
+}
+
+// What a sheet was replied: how many bytes of text, or that there was no room.
+pub(crate) fn reply(reply: Reply) {
+    match reply {
+        Reply::Text(count) => {
+            text(b" text");
+            spaced(count as u64);
+        }
+        Reply::NoRoom => text(b" no room"),
+    }
 }

@@ -63,6 +63,19 @@ pub(crate) fn table<'a>(body: &[u8], field: usize, table: &'a mut [i32]) -> &'a 
     &words[..count]
 }
 
+// Reads a field of bytes into a table, and gives the bytes read. A number that is no byte stands for what is left of it by 256.
+pub(crate) fn bytes<'a>(body: &[u8], field: usize, bytes: &'a mut [u8]) -> &'a [u8] {
+    let mut room = [0i32; 4200];
+    let words = table(body, field, &mut room);
+    let mut count = 0;
+    while (count < words.len()) & (count < bytes.len()) {
+        bytes[count] = (words::natural(words, count) % 256) as u8;
+        count += 1;
+    }
+    let read: &'a [u8] = bytes;
+    &read[..count]
+}
+
 // The number of up to 64 bits that a field spells, with one space before it at most.
 pub(crate) fn single(field: &[u8]) -> usize {
     if text::starts(field, b' ') {

@@ -9,7 +9,7 @@ use Rattle.bench_vectors.proofs.print.bytes.Statement.{statement}
 use Rattle.bench_vectors.proofs.print.bytes.Tie as tie
 
 abbrev Inv-loop : tie.InvT-loop
-Inv-loop heading table wide₀ at₀ wide at = (at ≤ length table) × (length wide ≡ 4100)
+Inv-loop heading table wide₀ at₀ wide at = (at ≤ length table) × (length wide ≡ 6000)
 
 abbrev μ-loop : tie.MeasureT-loop
 μ-loop heading table wide₀ at₀ wide at = length table - at

@@ -17,8 +17,8 @@ text-requires c κs = tt
 loop-holds : tie.Need-loop-holds Inv-loop μ-loop
 loop-holds c = omega arith
 
-natural-requires : tie.Need-natural-requires Inv-loop μ-loop
-natural-requires c κs = tt
+bits-requires : tie.Need-bits-requires Inv-loop μ-loop
+bits-requires c κs = tt
 
 add-count : tie.Need-add-count Inv-loop μ-loop
 add-count c = omega arith
@@ -26,8 +26,8 @@ add-count c = omega arith
 add-at : tie.Need-add-at Inv-loop μ-loop
 add-at c = omega arith
 
-natural-requires-2 : tie.Need-natural-requires-2 Inv-loop μ-loop
-natural-requires-2 c κs = tt
+bits-requires-2 : tie.Need-bits-requires-2 Inv-loop μ-loop
+bits-requires-2 c κs = tt
 
 copies-requires : tie.Need-copies-requires Inv-loop μ-loop
 copies-requires c κs = tt
@@ -55,10 +55,10 @@ words-spec =
     μ-loop
     text-requires
     loop-holds
-    natural-requires
+    bits-requires
     add-count
     add-at
-    natural-requires-2
+    bits-requires-2
     copies-requires
     loop-less
     loop-again
