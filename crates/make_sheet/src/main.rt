@@ -16,7 +16,7 @@ fn make(text: &[u8]) {
     let mut line = 1;
     let mut start = 0;
     loop {
-        let end = text::find(text, start, b'\n');
+        let end = text::find_end(text, start);
         match sheet::with_line(progress, text::line(text, start, end), &mut rows) {
             Step::Taken(next) => progress = next,
             Step::Refused(reason) => {

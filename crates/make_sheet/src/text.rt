@@ -17,20 +17,30 @@ pub(crate) fn count(text: &[u8], byte: u8) -> usize
     found
 }
 
-// The first place from a start on at which the byte stands, or else the text's end.
-pub(crate) fn find(text: &[u8], start: usize, byte: u8) -> usize
+// The first place from a start on at which one of two bytes stands, or, where `stands` is false, at which neither does; or else the text's end.
+fn find(text: &[u8], start: usize, one: u8, other: u8, stands: bool) -> usize
     requires { ⌜ start ≤ length (now text) ⌝ }
     ensures { λ r. ⌜ start ≤ r ⌝ }
     ensures { λ r. ⌜ r ≤ length (now (text .entry)) ⌝ }
 {
     let mut at = start;
     while at < text.len() {
-        if text[at] == byte {
+        let byte = text[at];
+        if ((byte == one) | (byte == other)) == stands {
             return at;
         }
         at += 1;
     }
     at
+}
+
+// Where the line that starts here ends.
+pub(crate) fn find_end(text: &[u8], start: usize) -> usize
+    requires { ⌜ start ≤ length (now text) ⌝ }
+    ensures { λ r. ⌜ start ≤ r ⌝ }
+    ensures { λ r. ⌜ r ≤ length (now (text .entry)) ⌝ }
+{
+    find(text, start, b'\n', b'\n', true)
 }
 
 // Where the line from start to end ends without its carriage return. Only one before a line feed belongs to the line's end: elsewhere it is a
@@ -59,7 +69,7 @@ pub(crate) fn line(text: &[u8], start: usize, end: usize) -> &[u8]
 {
     let end = line_end(text, start, end);
     let line = &text[start..end];
-    let comment = find(line, 0, b'#');
+    let comment = find(line, 0, b'#', b'#', true);
     &line[..comment]
 }
 
@@ -69,15 +79,7 @@ fn find_blank(line: &[u8], start: usize, blank: bool) -> usize
     ensures { λ r. ⌜ start ≤ r ⌝ }
     ensures { λ r. ⌜ r ≤ length (now (line .entry)) ⌝ }
 {
-    let mut at = start;
-    while at < line.len() {
-        let byte = line[at];
-        if ((byte == b' ') | (byte == b'\t')) == blank {
-            return at;
-        }
-        at += 1;
-    }
-    at
+    find(line, start, b' ', b'\t', blank)
 }
 
 // The word of that number, the first being word 0; empty if the line has fewer.

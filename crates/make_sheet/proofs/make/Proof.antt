@@ -18,8 +18,8 @@ start-requires c κs = tt
 loop-holds : tie.Need-loop-holds Inv-loop μ-loop
 loop-holds c = omega arith
 
-find-requires : tie.Need-find-requires Inv-loop μ-loop
-find-requires c κs = omega arith
+find-end-requires : tie.Need-find-end-requires Inv-loop μ-loop
+find-end-requires c κs = omega arith
 
 line-requires : tie.Need-line-requires Inv-loop μ-loop
 line-requires c κs = omega arith
@@ -74,7 +74,7 @@ make-spec =
     μ-loop
     start-requires
     loop-holds
-    find-requires
+    find-end-requires
     line-requires
     with-line-requires
     enum-known-next

@@ -6,16 +6,16 @@ use Rattle.make_sheet.proofs.text.find.Statement.{statement}
 use Rattle.make_sheet.proofs.text.find.Tie as tie
 
 abbrev Inv-loop : tie.InvT-loop
-Inv-loop text start byte at₀ at = (start ≤ at) × (at ≤ length text)
+Inv-loop text start one other stands at₀ at = (start ≤ at) × (at ≤ length text)
 
 abbrev μ-loop : tie.MeasureT-loop
-μ-loop text start byte at₀ at = length text - at
+μ-loop text start one other stands at₀ at = length text - at
 
 loop-holds : tie.Need-loop-holds Inv-loop μ-loop
 loop-holds c = omega arith
 
-shared-slice-read-if1 : tie.Need-shared-slice-read-if1 Inv-loop μ-loop
-shared-slice-read-if1 c = omega arith
+shared-slice-read-byte : tie.Need-shared-slice-read-byte Inv-loop μ-loop
+shared-slice-read-byte c = omega arith
 
 returns : tie.Need-returns Inv-loop μ-loop
 returns c = omega arith
@@ -39,7 +39,7 @@ find-spec =
     Inv-loop
     μ-loop
     loop-holds
-    shared-slice-read-if1
+    shared-slice-read-byte
     returns
     add-at
     loop-less
