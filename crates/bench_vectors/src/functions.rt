@@ -1,5 +1,4 @@
 // The functions that a vector can name, and what their fields may be.
-use crate::number;
 use crate::read;
 use crate::text;
 
@@ -31,7 +30,7 @@ pub const NONE: usize = 11;
 
 // Whether a field keeps to its limit. Words are only counted here, so that their table needs no room for them.
 fn field_fits(field: &[u8], limit: &[u8]) -> bool {
-    let most = number::magnitude(text::part(limit, 0, b'*'), 0);
+    let most = decimal_text::natural(text::part(limit, 0, b'*')) as usize;
     if text::last(limit, b'*') == 1 {
         let mut words = [0; 1];
         return read::put_all(field, &mut words) <= most;

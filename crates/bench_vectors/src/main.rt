@@ -4,7 +4,6 @@ use libc::STDIN_FILENO;
 
 mod calls;
 mod functions;
-mod number;
 mod print;
 mod read;
 mod text;

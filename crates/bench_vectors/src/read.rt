@@ -2,19 +2,26 @@
 // readers give what they have, and no caller has a fact to show.
 ghost use Prim.Native.Nat.{_≤_};
 ghost use lib.ListN.{length};
-use crate::number;
 use crate::text;
 use arena_sections::Sections;
 
 // How often an entry stands in its table, of so many stars and with a good number or none.
-fn times(entry: &[u8], stars: usize, good: bool) -> usize {
+fn times(entry: &[u8], stars: usize, good: bool) -> u64 {
     if good & (stars == 0) {
         return 1;
     }
     if good & (stars == 1) {
-        return number::magnitude(text::part(entry, 0, b'*'), 0);
+        return decimal_text::natural(text::part(entry, 0, b'*'));
     }
-    number::TOO_LARGE
+    decimal_text::NO_NUMBER
+}
+
+// The sum, which past the range is no number either.
+fn sum(a: u64, b: u64) -> u64 {
+    if decimal_text::NO_NUMBER - a < b {
+        return decimal_text::NO_NUMBER;
+    }
+    a + b
 }
 
 // Stores a number at each place from start to end that the table has.
@@ -35,8 +42,8 @@ fn put(entry: &[u8], count: usize, table: &mut [i32]) -> usize {
         return count;
     }
     let stars = text::last(entry, b'*');
-    let word = number::signed(text::part(entry, stars, b'*'));
-    let end = number::sum(count, times(entry, stars, word.good));
+    let word = decimal_text::signed(text::part(entry, stars, b'*'));
+    let end = sum(count as u64, times(entry, stars, word.good)) as usize;
     fill(table, count, end, word.value);
     end
 }
@@ -76,12 +83,20 @@ pub(crate) fn bytes<'a>(body: &[u8], field: usize, bytes: &'a mut [u8]) -> &'a [
     &read[..count]
 }
 
+// The field without the space before it, if there is one.
+fn without_space(field: &[u8]) -> &[u8] {
+    if field.len() == 0 {
+        return field;
+    }
+    if field[0] == b' ' {
+        return &field[1..];
+    }
+    field
+}
+
 // The number of up to 64 bits that a field spells, with one space before it at most.
 pub(crate) fn single(field: &[u8]) -> usize {
-    if text::starts(field, b' ') {
-        return number::magnitude(field, 1);
-    }
-    number::magnitude(field, 0)
+    decimal_text::natural(without_space(field)) as usize
 }
 
 // Reads a field that is a number of up to 64 bits.

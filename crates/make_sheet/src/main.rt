@@ -4,7 +4,6 @@ use libc::STDIN_FILENO;
 use refusal::Reason;
 use sheet::Step;
 
-mod number;
 mod refusal;
 mod sheet;
 mod text;

@@ -1,6 +1,6 @@
 // A request sheet, made line by line. The rows' bytes are kept apart from what stands before them, which is known only at the end.
-ghost use Prim.Native.Nat.{_≤_};
-use crate::number;
+ghost use Prim.Native.Nat.{_*_, _≤_};
+ghost use Rattle.request_table.specs.Limits.{greatestRows};
 use crate::refusal::Reason;
 use crate::text;
 use libc::STDOUT_FILENO;
@@ -38,7 +38,7 @@ pub(crate) fn start() -> Progress {
 
 // Where the row starts among the bytes of the rows, which is also where the rows before it end. None starts past the bytes.
 fn place_of(row: Row) -> usize
-    ensures { λ r. ⌜ r ≤ 4096 ⌝ }
+    ensures { λ r. ⌜ r ≤ 16 * greatestRows ⌝ }
 {
     if requests::GREATEST_ROWS < row.0 {
         return GREATEST_BYTES;
@@ -51,7 +51,7 @@ fn place_of(row: Row) -> usize
 fn put_row(rows: &mut [u8; GREATEST_BYTES], row: Row, line: &[u8]) -> bool {
     let place = place_of(row);
     for column in 0..requests::ROW_WORDS {
-        let number = number::signed(text::word(line, column));
+        let number = decimal_text::signed(text::word(line, column));
         if !number.good {
             return false;
         }
@@ -78,8 +78,8 @@ fn with_row(progress: Progress, line: &[u8], rows: &mut [u8; GREATEST_BYTES]) ->
 
 // Takes a line whose first word is `space`.
 fn with_space(progress: Progress, line: &[u8]) -> Step {
-    let number = number::unsigned(text::word(line, 1));
-    if !number.good | (text::word(line, 2).len() != 0) {
+    let number = decimal_text::natural(text::word(line, 1));
+    if (4294967295 < number) || (text::word(line, 2).len() != 0) {
         return Step::Refused(Reason::NotSpace);
     }
     if progress.given {
@@ -88,7 +88,7 @@ fn with_space(progress: Progress, line: &[u8]) -> Step {
     let next = progress.next;
     Step::Taken(Progress {
         next,
-        space: number.value,
+        space: number as u32,
         given: true,
     })
 }

@@ -1,5 +1,3 @@
-pub mod Decimal
-pub mod Decimals
 pub mod Text
 pub mod TextCases
 pub mod TextExamples

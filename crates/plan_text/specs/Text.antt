@@ -9,7 +9,7 @@ use Rattle.answer.specs.declared.Answer.{Answer}
 use Rattle.answer.specs.Answer.{done}
 use Rattle.request_table.specs.Limits.{greatestRows}
 use Rattle.words.specs.Words.{wordAt, natural}
-use Rattle.plan_text.specs.Decimal.{decimal}
+use Rattle.decimal_text.specs.Decimal.{decimal}
 
 -- The line feed that ends a line.
 abbrev pub lineFeed : List ℕ

@@ -12,7 +12,7 @@ use Rattle.bounded.specs.Pair.{partner, hasPartner, pairBelow, pairFirst, pairS
 use Rattle.greedy_rule.specs.Greedy.{largerFirst, fixedRows, greedyOrder, greedyPlan}
 use Rattle.greedy_rule.specs.Plan.{fixedCollide, greedyNeed, planOf}
 use Rattle.placement.specs.Placing.{put, free, top, lowest, offsetFor, placing, place}
-use Rattle.plan_text.specs.Decimal.{places, decimal}
+use Rattle.decimal_text.specs.Decimal.{places, decimal}
 use Rattle.plan_text.specs.Text.{badSheetText, spaced, headLine, rowLine, rowLines, planText, refusedText, answerText}
 use Rattle.request_table.specs.Buffers.{liveTogether, shareByte, collides, endOrZero, need}
 use Rattle.request_table.specs.Table.{request, good}

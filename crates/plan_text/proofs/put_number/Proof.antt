@@ -3,8 +3,8 @@ use mathlib.Core.Path.{_≡_, _∙_}
 use native.Mathlib.Omega.{arith}
 use borrow.Author.Needs.{needs}
 use lib.ListN.{take}
-use Rattle.plan_text.specs.Decimal.{decimal}
-use Rattle.plan_text.specs.Decimals.{decimal-of}
+use Rattle.decimal_text.specs.Decimal.{decimal}
+use Rattle.decimal_text.specs.Decimals.{decimal-of}
 use Rattle.plan_text.proofs.put_number.Statement.{statement}
 use Rattle.plan_text.proofs.put_number.Tie as tie
 

@@ -1,7 +1,7 @@
 -- `plan_text::put_row` meets its contract: the row, the offset, the line feed.
 use mathlib.Core.List.{_++_}
 use mathlib.Core.Path.{refl}
-use Rattle.plan_text.specs.Decimal.{decimal}
+use Rattle.decimal_text.specs.Decimal.{decimal}
 use Rattle.plan_text.specs.Put.{Put, put-both, put-length, room-first, room-next}
 use Rattle.plan_text.specs.Text.{spaced, lineFeed, rowLine}
 use Rattle.plan_text.proofs.put_row.Statement.{statement}

@@ -13,7 +13,8 @@ use lib.Seq.{getD-at}
 use Rattle.bounded.specs.Boolean.{lt-or-le, contrary}
 use Rattle.bounded.specs.First.{IsFirst, first-is, one-first}
 use Rattle.io.specs.Digits.{glyph, digits, Fewest}
-use Rattle.plan_text.specs.Decimal.{greatestPlaces, places, decimal}
+use Rattle.decimal_text.specs.Decimal.{greatestPlaces, places, decimal}
+use Rattle.decimal_text.specs.Spelled.{valueAfter, valueOf}
 
 -- ---- how many digits
 
@@ -83,15 +84,6 @@ unfolding decimal
 decimal-of n k h f = rw (places-of n k (fewest-bounded n k h f) f)
 
 -- ---- read back
-
--- What decimal text says after a number that was read before it.
-unfoldable pub valueAfter : ℕ → List ℕ → ℕ
-valueAfter value [] = value
-valueAfter value (code ∷ text) = valueAfter (10 * value + (code - 48)) text
-
--- The number that decimal text says.
-unfoldable pub valueOf : List ℕ → ℕ
-valueOf text = valueAfter 0 text
 
 value-more : (text : List ℕ) (value code : ℕ) → valueAfter value (text ++ (code ∷ [])) ≡ 10 * valueAfter value text + (code - 48)
 unfolding valueAfter
