@@ -20,8 +20,8 @@ unfoldable pub spaced : ℕ → List ℕ
 spaced n = 32 ∷ decimal n
 
 -- `head`
-abbrev pub head : List ℕ
-head = 104 ∷ 101 ∷ 97 ∷ 100 ∷ []
+abbrev pub headWord : List ℕ
+headWord = 104 ∷ 101 ∷ 97 ∷ 100 ∷ []
 
 -- `refused`
 abbrev pub refusedWord : List ℕ
@@ -29,7 +29,7 @@ refusedWord = 114 ∷ 101 ∷ 102 ∷ 117 ∷ 115 ∷ 101 ∷ 100 ∷ []
 
 -- The line `head NEED`.
 unfoldable pub headLine : ℕ → List ℕ
-headLine need = head ++ spaced need ++ lineFeed
+headLine need = headWord ++ spaced need ++ lineFeed
 
 -- The line `ROW OFFSET`.
 unfoldable pub rowLine : ℕ → ℕ → List ℕ

@@ -2,7 +2,7 @@
 use mathlib.Core.List.{_++_}
 use mathlib.Core.Path.{refl}
 use Rattle.plan_text.specs.Put.{Put, put-both, put-length, room-first, room-next}
-use Rattle.plan_text.specs.Text.{head, spaced, lineFeed, headLine}
+use Rattle.plan_text.specs.Text.{headWord, spaced, lineFeed, headLine}
 use Rattle.plan_text.proofs.put_head.Statement.{statement}
 use Rattle.plan_text.proofs.put_head.Tie as tie
 
@@ -14,7 +14,7 @@ second c = c .before .before .before .before .before
 
 -- the first two pieces, and all three
 two : (c : tie.After-put-spaced)
-    → Put (start c .args .text .now) (c .put-spaced .last .0) 0 (c .put-spaced .result) (head ++ spaced (start c .args .need))
+    → Put (start c .args .text .now) (c .put-spaced .last .0) 0 (c .put-spaced .result) (headWord ++ spaced (start c .args .need))
 two c = put-both (c .before .before .before .before .put-text .ensures) (c .put-spaced .ensures)
 
 whole : (c : tie.After-put-text2)
@@ -30,7 +30,7 @@ unfolding headLine
 put-text-requires c κs =
     let start = c .before .before .before in
     let need = spaced (start .args .need) in
-    room-first head need (room-first (head ++ need) lineFeed (start .pre))
+    room-first headWord need (room-first (headWord ++ need) lineFeed (start .pre))
 
 put-spaced-requires : tie.Need-put-spaced-requires
 unfolding headLine
