@@ -1,4 +1,4 @@
-// Signed 32-bit words at the edge: with `word_bytes`, the only functions that hold one. All else works with natural numbers.
+// Signed 32-bit words at the edge: here they become natural numbers, with which all that judges or plans works.
 // Each takes the slice and the place, and a place outside the slice reads as 0, as getD has it, so that any call is allowed.
 ghost use mathlib.Core.Path.{_≡_};
 ghost use lib.IntN.{pos};
