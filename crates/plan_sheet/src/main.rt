@@ -2,7 +2,7 @@
 ghost use Prim.Native.Nat.{_+_, _*_};
 ghost use mathlib.Core.Path.{_≡_};
 ghost use lib.ListN.{length};
-ghost use Rattle.plan_text.specs.Text.{greatestText};
+ghost use Rattle.text_rule.specs.Text.{greatestText};
 use libc::STDIN_FILENO;
 use libc::STDOUT_FILENO;
 use request_sheet::GREATEST_SHEET;

@@ -10,7 +10,7 @@ use lib.ListN.{length}
 use Rattle.bounded.specs.Boolean.{both}
 use Rattle.request_table.specs.Limits.{greatestRows}
 use Rattle.plan_text.specs.Put.{Put, Room, put-at-start}
-use Rattle.plan_text.specs.Text.{greatestText}
+use Rattle.text_rule.specs.Text.{greatestText}
 use Rattle.plan_text.specs.Written.{hasRoom, writtenLength, writtenInto}
 
 -- Where there is room, the offsets are no more than a plan has, and the bytes no fewer than any text has.

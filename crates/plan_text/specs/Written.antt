@@ -6,7 +6,7 @@ use mathlib.Core.List.{List, _++_}
 use lib.Dec.{leb}
 use lib.ListN.{length, drop}
 use Rattle.request_table.specs.Limits.{greatestRows}
-use Rattle.plan_text.specs.Text.{greatestText}
+use Rattle.text_rule.specs.Text.{greatestText}
 
 -- Whether lent bytes have room for any text over so many offsets.
 unfoldable pub hasRoom : ℕ → ℕ → Bool

@@ -7,7 +7,7 @@ ghost use lib.ListN.{length};
 ghost use Rattle.request_table.specs.Limits.{greatestRows};
 ghost use Rattle.decimal_text.specs.Decimal.{decimal};
 ghost use Rattle.plan_text.specs.Put.{Put, Room};
-ghost use Rattle.plan_text.specs.Text.{spaced, headLine, rowLine, rowLines, planText, refusedText, answerText, badSheetText, offsetIn};
+ghost use Rattle.text_rule.specs.Text.{spaced, headLine, rowLine, rowLines, planText, refusedText, answerText, badSheetText, offsetIn};
 ghost use Rattle.plan_text.specs.Written.{hasRoom, writtenLength, writtenInto};
 use answer::Answer;
 use requests::GREATEST_ROWS;

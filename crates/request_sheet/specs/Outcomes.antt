@@ -13,8 +13,8 @@ use Rattle.bounded.specs.Boolean.{contrary, lt-or-le, same-or-not}
 use Rattle.greedy_rule.specs.Answers.{done-says, done-of}
 use Rattle.greedy_rule.specs.Greedy.{greedyPlan}
 use Rattle.greedy_rule.specs.Plan.{planOf, greedyNeed}
-use Rattle.plan_text.specs.Text.{planText, answerText, refusedText, badSheetText, greatestText}
-use Rattle.plan_text.specs.TextCases.{done-text, refused-text}
+use Rattle.text_rule.specs.Text.{planText, answerText, refusedText, badSheetText, greatestText}
+use Rattle.text_rule.specs.TextCases.{done-text, refused-text}
 use Rattle.request_table.specs.Limits.{grid}
 use Rattle.sheet_bytes.specs.GoodSheets.{GoodSheet, well-says, well-of, rows-are}
 use Rattle.sheet_bytes.specs.Sheet.{wellFormed, rowCount, sheetRows, sheetSpace}

@@ -9,7 +9,7 @@ use lib.ListN.{length, drop}
 use Rattle.answer.specs.Answer.{done, tableTooShort}
 use Rattle.greedy_rule.specs.Greedy.{greedyPlan}
 use Rattle.greedy_rule.specs.Plan.{planOf}
-use Rattle.plan_text.specs.Text.{answerText, badSheetText, greatestText}
+use Rattle.text_rule.specs.Text.{answerText, badSheetText, greatestText}
 use Rattle.request_table.specs.Limits.{grid}
 use Rattle.request_table.specs.Table.{rows}
 use Rattle.sheet_bytes.specs.Sheet.{wellFormed, sheetRows, sheetSpace}

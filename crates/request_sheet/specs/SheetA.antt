@@ -13,7 +13,7 @@ use Rattle.greedy_rule.specs.Greedy.{largerFirst, fixedRows, greedyOrder, greed
 use Rattle.greedy_rule.specs.Plan.{fixedCollide, greedyNeed, planOf}
 use Rattle.placement.specs.Placing.{put, free, top, lowest, offsetFor, placing, place}
 use Rattle.decimal_text.specs.Decimal.{places, decimal}
-use Rattle.plan_text.specs.Text.{badSheetText, spaced, headLine, rowLine, rowLines, planText, refusedText, answerText}
+use Rattle.text_rule.specs.Text.{badSheetText, spaced, headLine, rowLine, rowLines, planText, refusedText, answerText}
 use Rattle.request_table.specs.Buffers.{liveTogether, shareByte, collides, endOrZero, need}
 use Rattle.request_table.specs.Table.{request, good}
 use Rattle.sheet_bytes.specs.Sheet.{marked, wellFormed}

@@ -8,7 +8,7 @@ pub use sheet_bytes::GREATEST_SHEET;
 ghost use Prim.Native.Nat.{_*_, _≤_};
 ghost use mathlib.Core.Path.{_≡_};
 ghost use lib.ListN.{length};
-ghost use Rattle.plan_text.specs.Text.{greatestText};
+ghost use Rattle.text_rule.specs.Text.{greatestText};
 ghost use Rattle.request_table.specs.Limits.{greatestRows};
 ghost use Rattle.request_table.specs.Table.{rows};
 ghost use Rattle.request_sheet.specs.Replies.{Stands};

@@ -1,5 +1,5 @@
 -- A well-formed sheet in plain terms, both ways: its mark, its version and its length; and what reading gives.
-use Prim.Native.Nat.{ℕ, _+_, _*_, _/_, _≤_}
+use Prim.Native.Nat.{ℕ, _+_, _*_, _<_, _≤_}
 use mathlib.Core.Bool.{Bool, true, false, _&&_}
 use mathlib.Core.List.{List, _++_}
 use mathlib.Core.Path.{_≡_, refl}
@@ -7,7 +7,7 @@ use native.Mathlib.Omega.{arith}
 use borrow.Author.Tests.{eqb-true, eq-eqb, leb-true, le-leb}
 use lib.Dec.{leb, eqb}
 use lib.IntN.{ℤ}
-use lib.ListN.{length, getD, drop}
+use lib.ListN.{length, getD, drop, List·getD-eq-default}
 use Rattle.bounded.specs.Boolean.{both, both-hold, contrary}
 use Rattle.request_table.specs.Limits.{greatestRows}
 use Rattle.request_table.specs.Table.{rows}
@@ -23,6 +23,15 @@ pub record GoodSheet (sheet : List ℕ) : Type 0 where
   pub version-is : version sheet ≡ 1
   pub whole : length sheet ≡ 11 + rowCount sheet * 16
   pub few : rowCount sheet ≤ greatestRows
+
+-- A sheet of fewer than three bytes has no mark.
+pub unmarked : (sheet : List ℕ) → length sheet < 3 → false ≡ marked sheet
+unfolding marked
+unmarked sheet h = rw (List·getD-eq-default sheet 0 {n = 2} (omega arith)) (go (eqb (getD sheet 0 0) 65 && eqb (getD sheet 1 0) 82))
+  where
+    go : (b : Bool) → false ≡ b && false
+    go true = refl
+    go false = refl
 
 module _ (sheet : List ℕ) where
   -- The test says so,

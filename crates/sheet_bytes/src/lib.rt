@@ -34,10 +34,10 @@ pub enum Sheet {
 fn is_marked(sheet: &[u8]) -> bool
     ensures { λ r. ⌜ r ≡ marked (now (sheet .entry)) ⌝ }
 {
-    let first = word_bytes::byte(sheet, 0, 0) == b'A';
-    let second = word_bytes::byte(sheet, 0, 1) == b'R';
-    let third = word_bytes::byte(sheet, 0, 2) == b'N';
-    first & second & third
+    if sheet.len() < VERSION_PLACE {
+        return false;
+    }
+    (sheet[0] == b'A') & (sheet[1] == b'R') & (sheet[2] == b'N')
 }
 
 // Whether mark, version and length are right.

@@ -6,7 +6,7 @@ ghost use lib.ListN.{getD, set};
 ghost use Rattle.word_bytes.specs.Bytes.{littleEndian, signedWord, unsignedWord, wordOf, withWord};
 
 // The byte some way ahead of a place. The two are compared with the length one by one, since their sum may not fit.
-pub fn byte(bytes: &[u8], at: usize, ahead: usize) -> u8
+fn byte(bytes: &[u8], at: usize, ahead: usize) -> u8
     ensures { λ r. ⌜ r ≡ getD (now (bytes .entry)) (at + ahead) 0 ⌝ }
 {
     if at < bytes.len() {

@@ -2,7 +2,7 @@
 use mathlib.Core.List.{_++_}
 use mathlib.Core.Path.{refl}
 use Rattle.plan_text.specs.Put.{Put, put-both, put-length, room-first, room-next}
-use Rattle.plan_text.specs.Text.{headWord, spaced, lineFeed, headLine}
+use Rattle.text_rule.specs.Text.{headWord, spaced, lineFeed, headLine}
 use Rattle.plan_text.proofs.put_head.Statement.{statement}
 use Rattle.plan_text.proofs.put_head.Tie as tie
 

@@ -3,8 +3,8 @@ use native.Mathlib.Omega.{arith}
 use borrow.Author.Needs.{needs}
 use Rattle.plan_text.specs.AllOrNothing.{room-says}
 use Rattle.plan_text.specs.Put.{put-both, put-length}
-use Rattle.plan_text.specs.Text.{planText}
-use Rattle.plan_text.specs.TextLengths.{head-short}
+use Rattle.text_rule.specs.Text.{planText}
+use Rattle.text_rule.specs.TextLengths.{head-short}
 use Rattle.plan_text.proofs.put_plan.Statement.{statement}
 use Rattle.plan_text.proofs.put_plan.Tie as tie
 

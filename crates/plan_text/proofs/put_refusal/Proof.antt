@@ -4,7 +4,7 @@ use mathlib.Core.List.{List, _++_}
 use mathlib.Core.Path.{refl}
 use borrow.Author.Needs.{needs}
 use Rattle.plan_text.specs.Put.{Put, Room, put-both, put-length, room-first, room-next}
-use Rattle.plan_text.specs.Text.{refusedWord, spaced, lineFeed, refusedText}
+use Rattle.text_rule.specs.Text.{refusedWord, spaced, lineFeed, refusedText}
 use Rattle.plan_text.proofs.put_refusal.Statement.{statement}
 use Rattle.plan_text.proofs.put_refusal.Tie as tie
 

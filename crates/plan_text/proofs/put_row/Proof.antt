@@ -3,7 +3,7 @@ use mathlib.Core.List.{_++_}
 use mathlib.Core.Path.{refl}
 use Rattle.decimal_text.specs.Decimal.{decimal}
 use Rattle.plan_text.specs.Put.{Put, put-both, put-length, room-first, room-next}
-use Rattle.plan_text.specs.Text.{spaced, lineFeed, rowLine}
+use Rattle.text_rule.specs.Text.{spaced, lineFeed, rowLine}
 use Rattle.plan_text.proofs.put_row.Statement.{statement}
 use Rattle.plan_text.proofs.put_row.Tie as tie
 

@@ -6,8 +6,8 @@ use native.Mathlib.Omega.{arith}
 use borrow.Author.Needs.{needs}
 use lib.ListN.{length}
 use Rattle.plan_text.specs.Put.{Put, put-none, put-both, put-length}
-use Rattle.plan_text.specs.Text.{offsetIn, rowLine, rowLines}
-use Rattle.plan_text.specs.TextLengths.{row-short}
+use Rattle.text_rule.specs.Text.{offsetIn, rowLine, rowLines}
+use Rattle.text_rule.specs.TextLengths.{row-short}
 use Rattle.plan_text.proofs.put_rows.Statement.{statement}
 use Rattle.plan_text.proofs.put_rows.Tie as tie
 

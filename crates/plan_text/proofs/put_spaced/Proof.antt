@@ -3,7 +3,7 @@ use mathlib.Core.List.{[], _∷_}
 use mathlib.Core.Path.{refl}
 use borrow.Author.Needs.{needs}
 use Rattle.plan_text.specs.Put.{put-both, room-first, room-next}
-use Rattle.plan_text.specs.Text.{spaced}
+use Rattle.text_rule.specs.Text.{spaced}
 use Rattle.plan_text.proofs.put_spaced.Statement.{statement}
 use Rattle.plan_text.proofs.put_spaced.Tie as tie
 

@@ -9,9 +9,9 @@ use borrow.Author.Tests.{not-true, not-false}
 use lib.ListN.{length}
 use Rattle.plan_text.specs.AllOrNothing.{room-for, whole-written, nothing-written}
 use Rattle.plan_text.specs.Put.{Put, put-length}
-use Rattle.plan_text.specs.Text.{answerText, offsetIn}
-use Rattle.plan_text.specs.TextCases.{done-text, refused-text}
-use Rattle.plan_text.specs.TextLengths.{Held, refused-short}
+use Rattle.text_rule.specs.Text.{answerText, offsetIn}
+use Rattle.text_rule.specs.TextCases.{done-text, refused-text}
+use Rattle.text_rule.specs.TextLengths.{Held, refused-short}
 use Rattle.plan_text.specs.Written.{hasRoom}
 use Rattle.plan_text.proofs.write_answer.Statement.{statement}
 use Rattle.plan_text.proofs.write_answer.Tie as tie

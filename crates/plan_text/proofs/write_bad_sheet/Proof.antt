@@ -5,8 +5,8 @@ use borrow.Author.Needs.{needs}
 use borrow.Author.Tests.{not-true, not-false}
 use lib.ListN.{length}
 use Rattle.plan_text.specs.AllOrNothing.{room-for, whole-written, nothing-written}
-use Rattle.plan_text.specs.Text.{badSheetText}
-use Rattle.plan_text.specs.TextLengths.{bad-sheet-short}
+use Rattle.text_rule.specs.Text.{badSheetText}
+use Rattle.text_rule.specs.TextLengths.{bad-sheet-short}
 use Rattle.plan_text.specs.Written.{hasRoom}
 use Rattle.plan_text.proofs.write_bad_sheet.Statement.{statement}
 use Rattle.plan_text.proofs.write_bad_sheet.Tie as tie

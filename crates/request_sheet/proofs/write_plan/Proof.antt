@@ -9,7 +9,7 @@ use lib.IntN.{ℤ}
 use lib.ListN.{length, take, drop, length-append}
 use lib.Seq.{length-take-le, take-at}
 use Rattle.bounded.specs.Front.{front-length}
-use Rattle.plan_text.specs.Text.{answerText, offsetIn}
+use Rattle.text_rule.specs.Text.{answerText, offsetIn}
 use Rattle.request_table.specs.Limits.{greatestRows}
 use Rattle.request_table.specs.Table.{rows}
 use Rattle.request_sheet.specs.Reply.{tableText}

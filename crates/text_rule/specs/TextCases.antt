@@ -4,7 +4,7 @@ use mathlib.Core.Path.{_≡_}
 use borrow.Author.Tests.{ne-eqb}
 use Rattle.answer.specs.declared.Answer.{Answer}
 use Rattle.answer.specs.Answer.{done}
-use Rattle.plan_text.specs.Text.{planText, refusedText, answerText}
+use Rattle.text_rule.specs.Text.{planText, refusedText, answerText}
 
 -- The text of an answer that is done is the plan,
 pub done-text : (x : Answer) (offsetOf : ℕ → ℕ) (n : ℕ) → x .number ≡ done → answerText x offsetOf n ≡ planText (x .need) offsetOf n

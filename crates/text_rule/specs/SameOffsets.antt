@@ -7,8 +7,8 @@ use native.Mathlib.Omega.{arith}
 use Rattle.answer.specs.Answer.{done}
 use Rattle.answer.specs.declared.Answer.{Answer}
 use Rattle.bounded.specs.Boolean.{same-or-not}
-use Rattle.plan_text.specs.Text.{headLine, rowLine, rowLines, planText, refusedText, answerText}
-use Rattle.plan_text.specs.TextCases.{done-text, refused-text}
+use Rattle.text_rule.specs.Text.{headLine, rowLine, rowLines, planText, refusedText, answerText}
+use Rattle.text_rule.specs.TextCases.{done-text, refused-text}
 
 -- Offsets that agree on the rows give the same lines.
 pub rows-same : (f g : ℕ → ℕ) (n : ℕ) → ((r : ℕ) → r < n → f r ≡ g r) → rowLines f n ≡ rowLines g n

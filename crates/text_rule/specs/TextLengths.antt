@@ -13,7 +13,7 @@ use Rattle.request_table.specs.Limits.{greatestRows}
 use Rattle.words.specs.Words.{wordAt, natural}
 use Rattle.decimal_text.specs.Decimal.{decimal}
 use Rattle.decimal_text.specs.Decimals.{places-at-most, places-bounded, decimal-long}
-use Rattle.plan_text.specs.Text.{spaced, headLine, rowLine, offsetIn, rowLines, planText, refusedText, answerText, badSheetText, greatestText}
+use Rattle.text_rule.specs.Text.{spaced, headLine, rowLine, offsetIn, rowLines, planText, refusedText, answerText, badSheetText, greatestText}
 
 -- The numbers of an answer are as wide as the code holds them: three of 32 bits, the need of 64.
 pub record Held (x : Answer) : Type 0 where

@@ -1,0 +1,5 @@
+pub mod Text
+pub mod TextExamples
+pub mod TextCases
+pub mod TextLengths
+pub mod SameOffsets
