@@ -16,7 +16,7 @@ use Rattle.bounded.specs.Replaced.{replaced-at}
 use Rattle.greedy_rule.specs.DonePlans.{done-plan}
 use Rattle.greedy_rule.specs.Greedy.{greedyPlan}
 use Rattle.greedy_rule.specs.Plan.{planOf, plannedTable}
-use Rattle.text_rule.specs.SameOffsets.{answer-same}
+use Rattle.text_rule.specs.TextOfOffsets.{answer-same}
 use Rattle.text_rule.specs.Text.{answerText, badSheetText, greatestText, offsetIn}
 use Rattle.plan_text.specs.Written.{hasRoom, writtenLength, writtenInto}
 use Rattle.request_table.specs.Limits.{grid, greatestRows}

@@ -2,4 +2,4 @@ pub mod Text
 pub mod TextExamples
 pub mod TextCases
 pub mod TextLengths
-pub mod SameOffsets
+pub mod TextOfOffsets
