@@ -84,10 +84,12 @@ pub fn write(offsets: &[i32], bytes: &mut [u8]) -> Answer
     ensures bytes { λ _. ⌜ now (bytes .exit) ≡ bytesWritten (now (offsets .entry)) (now (bytes .entry)) ⌝ }
 {
     let count = offsets.len();
-    if GREATEST_ROWS < count {
+    let too_long = GREATEST_ROWS < count;
+    let too_few_bytes = bytes.len() < OFFSETS_PLACE + count * WORD_BYTES;
+    if too_long {
         return Answer::refused(Answer::TOO_MANY);
     }
-    if bytes.len() < OFFSETS_PLACE + count * WORD_BYTES {
+    if too_few_bytes {
         return Answer::refused(Answer::TABLE_TOO_SHORT);
     }
     put_plan(offsets, bytes);

@@ -2,32 +2,31 @@
 use mathlib.Core.Path.{sym, _∙_, ap}
 use native.Mathlib.Omega.{arith}
 use borrow.Author.Needs.{needs}
-use borrow.Author.Tests.{lt-ltb, le-ltb}
 use Rattle.answer.specs.Answer.{numberOf}
 use Rattle.offline_rule.specs.Answers.{many-refused, short-refused, write-passes, done-written, refusal-keeps-bytes}
 use Rattle.offline_plan.proofs.write.Statement.{statement}
 use Rattle.offline_plan.proofs.write.Tie as tie
+
+mul-too-few-bytes : tie.Need-mul-too-few-bytes
+mul-too-few-bytes c = search needs
+
+add-too-few-bytes : tie.Need-add-too-few-bytes
+add-too-few-bytes c = search needs
 
 refused-requires : tie.Need-refused-requires
 refused-requires c κs = search needs
 
 returns : tie.Need-returns
 returns c =
-    let e = many-refused _ _ (lt-ltb _ _ (c .before .if1 .taken)) in
+    let e = many-refused _ _ (c .before .if1 .taken) in
     (c .refused .ensures ∙ e, sym (refusal-keeps-bytes _ _ (λ z. omega (arith, ap numberOf e, z))))
-
-mul-if2 : tie.Need-mul-if2
-mul-if2 c = search needs
-
-add-if2 : tie.Need-add-if2
-add-if2 c = search needs
 
 refused-requires-2 : tie.Need-refused-requires-2
 refused-requires-2 c κs = search needs
 
 returns-2 : tie.Need-returns-2
 returns-2 c =
-    let e = short-refused _ _ (le-ltb _ _ (c .before .before .if1 .left)) (lt-ltb _ _ (c .before .if2 .taken)) in
+    let e = short-refused _ _ (c .before .before .if1 .left) (c .before .if2 .taken) in
     (c .refused2 .ensures ∙ e, sym (refusal-keeps-bytes _ _ (λ z. omega (arith, ap numberOf e, z))))
 
 put-plan-requires : tie.Need-put-plan-requires
@@ -42,17 +41,17 @@ same-length c = search needs
 returns-3 : tie.Need-returns-3
 returns-3 c =
     let f = c .before .before .before .before .before in
-    let e = write-passes _ _ (le-ltb _ _ (f .before .if1 .left)) (le-ltb _ _ (f .if2 .left)) in
+    let e = write-passes _ _ (f .before .if1 .left) (f .if2 .left) in
     (c .done .ensures ∙ e, c .before .before .before .put-plan .ensures ∙ sym (done-written _ _ (sym (ap numberOf e))))
 
 pub write-spec : {M : Type 1} → statement M
 write-spec =
     tie.close
     (tie.spec
+    mul-too-few-bytes
+    add-too-few-bytes
     refused-requires
     returns
-    mul-if2
-    add-if2
     refused-requires-2
     returns-2
     put-plan-requires
