@@ -1,0 +1,104 @@
+// Request rows as the second planner and the test of all pairs see them, read from document 01 anew. Nothing here is the planner's or the inspector's.
+use crate::table;
+use answer::Answer;
+
+// A row's four words.
+pub struct Request {
+    pub size: i32,
+    pub first: i32,
+    pub last: i32,
+    pub offset: i32,
+}
+
+pub(crate) fn count(requests: &[i32]) -> u64 {
+    (requests.len() / 4) as u64
+}
+
+pub(crate) fn read(requests: &[i32], row: u64) -> Request {
+    let start = (row % 65536) * 4;
+    Request {
+        size: table::word(requests, start),
+        first: table::word(requests, start + 1),
+        last: table::word(requests, start + 2),
+        offset: table::word(requests, start + 3),
+    }
+}
+
+pub(crate) fn is_fixed(request: Request) -> bool {
+    request.offset != -1
+}
+
+// Whether a word is a multiple of 16, from 0.
+pub(crate) fn is_step(word: i32) -> bool {
+    (0 <= word) & (table::natural(word) % 16 == 0)
+}
+
+fn is_good(request: Request) -> bool {
+    let sized = (0 <= request.size) & (request.size <= 16777216);
+    let lives = (0 <= request.first) & (request.first <= request.last) & (request.last <= 65535);
+    let placed = is_step(request.offset) & (request.offset <= 16777216);
+    sized & lives & (placed | !is_fixed(request))
+}
+
+// The size in steps of 16 bytes, the last of them begun: what the row takes.
+pub(crate) fn taken(request: Request) -> u64 {
+    let size = table::natural(request.size);
+    if size % 16 == 0 {
+        return size;
+    }
+    table::sum(size - size % 16, 16)
+}
+
+// Whether two rows at two places are out at one moment on one byte. What both have of the moments is from the later first to the earlier last, and of
+// the bytes from the higher start to the lower end; an empty row has no byte.
+pub(crate) fn meet(a: Request, start_a: u64, b: Request, start_b: u64) -> bool {
+    let end_a = table::sum(start_a, taken(a));
+    let end_b = table::sum(start_b, taken(b));
+    let begin = table::larger(table::natural(a.first), table::natural(b.first));
+    let over = table::smaller(table::natural(a.last), table::natural(b.last));
+    (begin <= over) & (table::larger(start_a, start_b) < table::smaller(end_a, end_b))
+}
+
+pub(crate) fn refusal(number: u32, a: u64, b: u64, need: u64) -> Answer {
+    Answer {
+        number,
+        a: table::narrow(a),
+        b: table::narrow(b),
+        need,
+    }
+}
+
+// The lowest bad row, or the number of rows.
+fn lowest_bad(requests: &[i32]) -> u64 {
+    let rows = count(requests);
+    let mut row = 0;
+    while row < rows {
+        if !is_good(read(requests, row)) {
+            return row;
+        }
+        row += 1;
+    }
+    row
+}
+
+// The numbers 1 to 5, or 0.
+pub(crate) fn check(requests: &[i32], space: u32, room: usize) -> Answer {
+    let rows = count(requests);
+    let bad = lowest_bad(requests);
+    if requests.len() % 4 != 0 {
+        return refusal(1, 0, 0, 0);
+    }
+    if 256 < rows {
+        return refusal(2, 0, 0, 0);
+    }
+    if (room as u64) < rows {
+        return refusal(3, 0, 0, 0);
+    }
+    if 16777216 < space {
+        return refusal(4, 0, 0, 0);
+    }
+    if bad < rows {
+        return refusal(5, bad, 0, 0);
+    }
+    refusal(0, 0, 0, 0)
+}
