@@ -66,39 +66,13 @@ pub(crate) fn need(requests: &[i32], places: &[u64]) -> u64 {
     greatest
 }
 
-// The lowest fixed row that is proposed elsewhere, or the number of rows.
-fn lowest_moved(requests: &[i32], offsets: &[i32]) -> u64 {
-    let count = rows::count(requests);
+// Reads the places of so many rows from words that stand so far apart, the first of them at a start.
+pub(crate) fn read_places(words: &[i32], start: u64, apart: u64, count: u64, places: &mut [u64]) {
+    let mut at = start;
     let mut row = 0;
     while row < count {
-        let request = rows::read(requests, row);
-        let offset = request.offset;
-        if rows::is_fixed(request) & (table::word(offsets, row) != offset) {
-            return row;
-        }
-        row += 1;
-    }
-    row
-}
-
-// The lowest row that is proposed at no multiple of 16, or the number of rows.
-fn lowest_uneven(requests: &[i32], offsets: &[i32]) -> u64 {
-    let count = rows::count(requests);
-    let mut row = 0;
-    while row < count {
-        if !rows::is_step(table::word(offsets, row)) {
-            return row;
-        }
-        row += 1;
-    }
-    row
-}
-
-// The places that a proposal states.
-fn read_places(offsets: &[i32], count: u64, places: &mut [u64]) {
-    let mut row = 0;
-    while row < count {
-        table::put(places, row, table::natural(table::word(offsets, row)));
+        table::put(places, row, table::natural(table::word(words, at)));
+        at = table::sum(at, apart);
         row += 1;
     }
 }
@@ -107,12 +81,12 @@ fn read_places(offsets: &[i32], count: u64, places: &mut [u64]) {
 fn judge_rows(requests: &[i32], space: u32, offsets: &[i32]) -> Answer {
     let count = rows::count(requests);
     let mut places = [0u64; 256];
-    read_places(offsets, count, &mut places);
-    let moved = lowest_moved(requests, offsets);
+    read_places(offsets, 0, 1, count, &mut places);
+    let moved = rows::lowest_refused(8, requests, offsets);
     if moved < count {
         return rows::refusal(8, moved, 0, 0);
     }
-    let uneven = lowest_uneven(requests, offsets);
+    let uneven = rows::lowest_refused(9, requests, offsets);
     if uneven < count {
         return rows::refusal(9, uneven, 0, 0);
     }
@@ -129,7 +103,7 @@ fn judge_rows(requests: &[i32], space: u32, offsets: &[i32]) -> Answer {
 
 // What the inspector is to answer.
 pub(crate) fn judge(requests: &[i32], space: u32, offsets: &[i32]) -> Answer {
-    let checked = rows::check(requests, space, offsets.len());
+    let checked = rows::check(requests, space, offsets);
     if checked.number != 0 {
         return checked;
     }

@@ -29,7 +29,7 @@ pub(crate) fn is_fixed(request: Request) -> bool {
 }
 
 // Whether a word is a multiple of 16, from 0.
-pub(crate) fn is_step(word: i32) -> bool {
+fn is_step(word: i32) -> bool {
     (0 <= word) & (table::natural(word) % 16 == 0)
 }
 
@@ -68,12 +68,21 @@ pub(crate) fn refusal(number: u32, a: u64, b: u64, need: u64) -> Answer {
     }
 }
 
-// The lowest bad row, or the number of rows.
-fn lowest_bad(requests: &[i32]) -> u64 {
+// Whether document 01 refuses a row by itself, with a proposed offset: as bad (5), as moved (8), or as negative or no multiple of 16 (9).
+fn is_refused(number: u32, request: Request, offset: i32) -> bool {
+    match number {
+        5 => !is_good(request),
+        8 => is_fixed(request) & (request.offset != offset),
+        _ => !is_step(offset),
+    }
+}
+
+// The lowest row that is refused by that number, or the number of rows.
+pub(crate) fn lowest_refused(number: u32, requests: &[i32], offsets: &[i32]) -> u64 {
     let rows = count(requests);
     let mut row = 0;
     while row < rows {
-        if !is_good(read(requests, row)) {
+        if is_refused(number, read(requests, row), table::word(offsets, row)) {
             return row;
         }
         row += 1;
@@ -82,16 +91,17 @@ fn lowest_bad(requests: &[i32]) -> u64 {
 }
 
 // The numbers 1 to 5, or 0.
-pub(crate) fn check(requests: &[i32], space: u32, room: usize) -> Answer {
+pub(crate) fn check(requests: &[i32], space: u32, offsets: &[i32]) -> Answer {
     let rows = count(requests);
-    let bad = lowest_bad(requests);
+    let room = offsets.len() as u64;
+    let bad = lowest_refused(5, requests, offsets);
     if requests.len() % 4 != 0 {
         return refusal(1, 0, 0, 0);
     }
     if 256 < rows {
         return refusal(2, 0, 0, 0);
     }
-    if (room as u64) < rows {
+    if room < rows {
         return refusal(3, 0, 0, 0);
     }
     if 16777216 < space {

@@ -11,28 +11,40 @@ Inv-loop number requests space offsets room count tally₀ rows change₀ tally 
 
 abbrev μ-loop : tie.MeasureT-loop
 μ-loop number requests space offsets room count tally₀ rows change₀ tally change = count - change
+
 count-requires : tie.Need-count-requires Inv-loop μ-loop
 count-requires c κs = tt
+
 narrow-requires : tie.Need-narrow-requires Inv-loop μ-loop
 narrow-requires c κs = tt
+
 loop-holds : tie.Need-loop-holds Inv-loop μ-loop
 loop-holds c = omega arith
+
 apply-requires : tie.Need-apply-requires Inv-loop μ-loop
 apply-requires c κs = tt
+
 slice-aggregate-front : tie.Need-slice-aggregate-front Inv-loop μ-loop
 slice-aggregate-front c = omega arith
+
 front-requires : tie.Need-front-requires Inv-loop μ-loop
 front-requires c κs = tt
+
 inspect-requires : tie.Need-inspect-requires Inv-loop μ-loop
 inspect-requires c κs = tt
+
 add-change : tie.Need-add-change Inv-loop μ-loop
 add-change c = omega arith
+
 loop-less : tie.Need-loop-less Inv-loop μ-loop
 loop-less c = omega arith
+
 loop-again : tie.Need-loop-again Inv-loop μ-loop
 loop-again c = omega arith
+
 same-length : tie.Need-same-length Inv-loop μ-loop
 same-length c = omega arith
+
 returns : tie.Need-returns Inv-loop μ-loop
 returns c = tt
 
