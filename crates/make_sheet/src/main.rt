@@ -2,20 +2,38 @@
 // output; for a text that is none, one line goes there that tells what is wrong and where. What the numbers mean is left to the planner.
 use libc::STDIN_FILENO;
 use refusal::Reason;
+use sheet::Progress;
 use sheet::Step;
 
 mod refusal;
 mod sheet;
 mod text;
 
-// Writes the text's sheet, or the first refusal. Even the empty text has a line, so that there is one to name.
-fn make(text: &[u8]) {
+// Ends a text after its last line: writes the sheet, or tells what is missing.
+fn finish(progress: Progress, rows: [u8; sheet::GREATEST_BYTES], line: usize, whole: bool) {
+    if !whole {
+        refusal::tell(line, Reason::TooLong);
+        return;
+    }
+    if !progress.given {
+        refusal::tell(line, Reason::NoSpace);
+        return;
+    }
+    sheet::write(progress, rows);
+}
+
+// Writes the text's sheet, or the first refusal. Even the empty text has a line, so that there is one to name. Of a text that is not whole the last line
+// is not read: it may be cut, and might pass for another.
+fn make(text: &[u8], whole: bool) {
     let mut rows = [0u8; sheet::GREATEST_BYTES];
     let mut progress = sheet::start();
     let mut line = 1;
     let mut start = 0;
     loop {
         let end = text::find_end(text, start);
+        if !whole & (text.len() <= end + 1) {
+            break;
+        }
         match sheet::with_line(progress, text::line(text, start, end), &mut rows) {
             Step::Taken(next) => progress = next,
             Step::Refused(reason) => {
@@ -29,11 +47,7 @@ fn make(text: &[u8]) {
         start = end + 1;
         line += 1;
     }
-    if progress.given {
-        sheet::write(progress, rows);
-    } else {
-        refusal::tell(line, Reason::NoSpace);
-    }
+    finish(progress, rows, line, whole);
 }
 
 // Whether standard input has a byte more.
@@ -42,13 +56,9 @@ fn has_more() -> bool {
     io::read_full(STDIN_FILENO, &mut byte) == 1
 }
 
-// A text that the buffer does not hold is refused before a line is read: the last of them would be cut, and might pass for another.
 fn main() {
     let mut buffer = io::large_buffer();
     let length = io::read_full(STDIN_FILENO, &mut buffer);
-    if (length == buffer.len()) && has_more() {
-        refusal::tell(text::count(&buffer, b'\n') + 1, Reason::TooLong);
-        return;
-    }
-    make(&buffer[..length]);
+    let whole = (length < buffer.len()) || !has_more();
+    make(&buffer[..length], whole);
 }

@@ -2,21 +2,6 @@
 ghost use Prim.Native.Nat.{_≤_};
 ghost use lib.ListN.{length};
 
-// How often the byte stands in the text.
-pub(crate) fn count(text: &[u8], byte: u8) -> usize
-    ensures { λ r. ⌜ r ≤ length (now (text .entry)) ⌝ }
-{
-    let mut at = 0;
-    let mut found = 0;
-    while at < text.len() {
-        if text[at] == byte {
-            found += 1;
-        }
-        at += 1;
-    }
-    found
-}
-
 // The first place from a start on at which one of two bytes stands, or, where `stands` is false, at which neither does; or else the text's end.
 fn find(text: &[u8], start: usize, one: u8, other: u8, stands: bool) -> usize
     requires { ⌜ start ≤ length (now text) ⌝ }

@@ -7,10 +7,10 @@ use Rattle.make_sheet.proofs.make.Statement.{statement}
 use Rattle.make_sheet.proofs.make.Tie as tie
 
 abbrev Inv-loop : tie.InvT-loop
-Inv-loop text rows₀ progress₀ line₀ start₀ rows progress line start = (start ≤ length text) × (line ≤ start + 1)
+Inv-loop text whole rows₀ progress₀ line₀ start₀ rows progress line start = (start ≤ length text) × (line ≤ start + 1)
 
 abbrev μ-loop : tie.MeasureT-loop
-μ-loop text rows₀ progress₀ line₀ start₀ rows progress line start = length text - start
+μ-loop text whole rows₀ progress₀ line₀ start₀ rows progress line start = length text - start
 
 start-requires : tie.Need-start-requires Inv-loop μ-loop
 start-requires c κs = tt
@@ -20,6 +20,9 @@ loop-holds c = omega arith
 
 find-end-requires : tie.Need-find-end-requires Inv-loop μ-loop
 find-end-requires c κs = omega arith
+
+add-if1 : tie.Need-add-if1 Inv-loop μ-loop
+add-if1 c = omega arith
 
 line-requires : tie.Need-line-requires Inv-loop μ-loop
 line-requires c κs = omega arith
@@ -39,8 +42,8 @@ tell-requires c κs = tt
 returns : tie.Need-returns Inv-loop μ-loop
 returns c = tt
 
-add-if1 : tie.Need-add-if1 Inv-loop μ-loop
-add-if1 c = omega arith
+add-if2 : tie.Need-add-if2 Inv-loop μ-loop
+add-if2 c = omega arith
 
 add-start : tie.Need-add-start Inv-loop μ-loop
 add-start c = omega arith
@@ -54,17 +57,11 @@ loop-less c = omega arith
 loop-again : tie.Need-loop-again Inv-loop μ-loop
 loop-again c = omega arith
 
-write-requires : tie.Need-write-requires Inv-loop μ-loop
-write-requires c κs = tt
-
-tell-requires-2 : tie.Need-tell-requires-2 Inv-loop μ-loop
-tell-requires-2 c κs = tt
+finish-requires : tie.Need-finish-requires Inv-loop μ-loop
+finish-requires c κs = tt
 
 returns-2 : tie.Need-returns-2 Inv-loop μ-loop
 returns-2 c = tt
-
-returns-3 : tie.Need-returns-3 Inv-loop μ-loop
-returns-3 c = tt
 
 pub make-spec : {M : Type 1} → statement M
 make-spec =
@@ -75,18 +72,17 @@ make-spec =
     start-requires
     loop-holds
     find-end-requires
+    add-if1
     line-requires
     with-line-requires
     enum-known-next
     enum-known-reason
     tell-requires
     returns
-    add-if1
+    add-if2
     add-start
     add-line
     loop-less
     loop-again
-    write-requires
-    tell-requires-2
-    returns-2
-    returns-3)
+    finish-requires
+    returns-2)
