@@ -27,6 +27,16 @@ const SHEET_BYTES: usize = 4200;
 
 const TEXT_BYTES: usize = 6000;
 
+// Requests; space; room for offsets.
+fn plan_requests(body: &[u8]) {
+    let mut table = [0i32; REQUEST_WORDS];
+    let mut lent = [9999i32; OFFSETS];
+    let requests = read::table(body, 0, &mut table);
+    let offsets = read::lent_words(body, 2, &mut lent);
+    print::answer(greedy_planner::plan(requests, read::number(body, 1), offsets));
+    print::words(b"; offsets", offsets);
+}
+
 // The script's own fields, over a plan that was read: accesses; arena length; room for byte answers.
 fn run_script(body: &[u8], requests: &[i32], space: u32, offsets: &[i32]) {
     let mut accesses = [0i32; ACCESS_WORDS];
@@ -116,6 +126,7 @@ fn operate(function: usize, body: &[u8]) -> Outcome {
 // Calls the function of that number.
 pub(crate) fn call(function: usize, body: &[u8]) {
     match function {
+        functions::PLAN => plan_requests(body),
         functions::INSPECT | functions::RUN => judge(function, body),
         functions::FROM_USES => from_uses(body),
         functions::READ => read_plan(body),

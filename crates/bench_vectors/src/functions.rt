@@ -3,30 +3,32 @@ use crate::read;
 use crate::text;
 
 // The rows of the list in `of`, by number.
-pub const INSPECT: usize = 0;
+pub const PLAN: usize = 0;
 
-pub const RUN: usize = 1;
+pub const INSPECT: usize = 1;
 
-pub const FROM_USES: usize = 2;
+pub const RUN: usize = 2;
 
-pub const OPEN: usize = 3;
+pub const FROM_USES: usize = 3;
 
-pub const ALLOCATE_PERSISTENT: usize = 4;
+pub const OPEN: usize = 4;
 
-pub const ALLOCATE_TEMP: usize = 5;
+pub const ALLOCATE_PERSISTENT: usize = 5;
 
-pub const RESET_TEMP: usize = 6;
+pub const ALLOCATE_TEMP: usize = 6;
 
-pub const SET_HEAD: usize = 7;
+pub const RESET_TEMP: usize = 7;
 
-pub const READ: usize = 8;
+pub const SET_HEAD: usize = 8;
 
-pub const WRITE: usize = 9;
+pub const READ: usize = 9;
 
-pub const REPLY: usize = 10;
+pub const WRITE: usize = 10;
+
+pub const REPLY: usize = 11;
 
 // How many there are; this stands for a line that is no vector.
-pub const NONE: usize = 11;
+pub const NONE: usize = 12;
 
 // Whether a field keeps to its limit. Words are only counted here, so that their table needs no room for them.
 fn field_fits(field: &[u8], limit: &[u8]) -> bool {
@@ -81,7 +83,8 @@ fn row_of(line: &[u8], rows: &[u8]) -> usize {
 pub(crate) fn of(line: &[u8]) -> usize {
     row_of(
         line,
-        b"inspect:1032*;4294967295;260*
+        b"plan:1032*;4294967295;260
+inspect:1032*;4294967295;260*
 run:1032*;4294967295;260*;16392*;1024;4100
 from_uses:4294967295;4294967295;12300*;520
 open:18446744073709551614;18446744073709551614
