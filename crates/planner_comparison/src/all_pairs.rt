@@ -1,4 +1,5 @@
 // A plan judged directly: every row by itself, then every two. This is what the inspector is compared with.
+use crate::numbers;
 use crate::rows;
 use crate::table;
 use answer::Answer;
@@ -27,7 +28,7 @@ fn clash(requests: &[i32], places: &[u64], pair: Pair, fixed_only: bool) -> bool
 // The lowest row behind a row that it meets, or the number of rows.
 fn partner(requests: &[i32], places: &[u64], a: u64, fixed_only: bool) -> u64 {
     let count = rows::count(requests);
-    let mut b = table::sum(a, 1);
+    let mut b = numbers::sum(a, 1);
     while b < count {
         if clash(requests, places, Pair { a, b }, fixed_only) {
             return b;
@@ -59,7 +60,7 @@ pub(crate) fn need(requests: &[i32], places: &[u64]) -> u64 {
     while row < count {
         let taken = rows::taken(rows::read(requests, row));
         if taken != 0 {
-            greatest = table::larger(greatest, table::sum(table::entry(places, row), taken));
+            greatest = numbers::larger(greatest, numbers::sum(table::entry(places, row), taken));
         }
         row += 1;
     }
@@ -71,8 +72,8 @@ pub(crate) fn read_places(words: &[i32], start: u64, apart: u64, count: u64, pla
     let mut at = start;
     let mut row = 0;
     while row < count {
-        table::put(places, row, table::natural(table::word(words, at)));
-        at = table::sum(at, apart);
+        table::put(places, row, numbers::natural(table::word(words, at)));
+        at = numbers::sum(at, apart);
         row += 1;
     }
 }
@@ -84,21 +85,21 @@ fn judge_rows(requests: &[i32], space: u32, offsets: &[i32]) -> Answer {
     read_places(offsets, 0, 1, count, &mut places);
     let moved = rows::lowest_refused(8, requests, offsets);
     if moved < count {
-        return rows::refusal(8, moved, 0, 0);
+        return rows::told(8, moved, 0, 0);
     }
     let uneven = rows::lowest_refused(9, requests, offsets);
     if uneven < count {
-        return rows::refusal(9, uneven, 0, 0);
+        return rows::told(9, uneven, 0, 0);
     }
     let need = need(requests, &places);
     if (space as u64) < need {
-        return rows::refusal(7, 0, 0, need);
+        return rows::told(7, 0, 0, need);
     }
     let pair = first_pair(requests, &places, false);
     if pair.a < count {
-        return rows::refusal(10, pair.a, pair.b, 0);
+        return rows::told(10, pair.a, pair.b, 0);
     }
-    rows::refusal(0, 0, 0, need)
+    rows::told(0, 0, 0, need)
 }
 
 // What the inspector is to answer.

@@ -1,5 +1,6 @@
 // Plans with one change each, so that the inspector meets bad ones.
 use crate::draw;
+use crate::numbers;
 use crate::table;
 use answer::Answer;
 
@@ -25,18 +26,18 @@ pub(crate) fn count(answer: Answer) -> u32 {
 // An offset one step of the grid up or down.
 fn moved(offset: u64, up: bool) -> i32 {
     if up {
-        return table::signed(table::sum(offset, 16));
+        return numbers::signed(numbers::sum(offset, 16));
     }
     if offset < 16 {
         return -16;
     }
-    table::signed(offset - 16)
+    numbers::signed(offset - 16)
 }
 
 // The plan with a row one step away.
 fn with_moved(offsets: [i32; OFFSETS], row: u64, up: bool) -> [i32; OFFSETS] {
     let mut next = offsets;
-    let offset = table::natural(table::word(&offsets, row));
+    let offset = numbers::natural(table::word(&offsets, row));
     table::put_word(&mut next, row, moved(offset, up));
     next
 }

@@ -1,6 +1,7 @@
 // The two planners beside each other, and the inspector beside the test of all pairs.
 use crate::all_pairs;
 use crate::changes;
+use crate::numbers;
 use crate::rows;
 use crate::second_planner;
 use crate::table;
@@ -44,7 +45,7 @@ fn inspect_changes(
     count: u32,
     tally: &mut [u64],
 ) {
-    let rows = table::narrow(rows::count(requests));
+    let rows = numbers::narrow(rows::count(requests));
     let mut change = 0;
     while change < count {
         let changed = changes::apply(offsets, rows, number, change);

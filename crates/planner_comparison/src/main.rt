@@ -4,10 +4,11 @@ mod all_pairs;
 mod changes;
 mod compare;
 mod draw;
+mod generator;
+mod numbers;
 mod rows;
 mod second_planner;
 mod table;
-mod tables;
 mod tally;
 
 // Plans a table in the space that it needs, and in one byte less.
@@ -15,28 +16,28 @@ fn run_tight(number: u32, requests: &[i32], need: u32, tally: &mut [u64]) {
     if need == 0 {
         return;
     }
-    let room = tables::room(number);
+    let room = generator::room(number);
     compare::plan(number, requests, need, room, tally);
     compare::plan(number, requests, need - 1, room, tally);
 }
 
 // Plans a table in its own space and, where that is done, tightly.
 fn run(number: u32, tally: &mut [u64]) {
-    let mut words = [0i32; tables::GREATEST_WORDS];
-    tables::fill(number, &mut words);
-    let requests = table::front(&words, tables::words(number));
+    let mut words = [0i32; generator::GREATEST_WORDS];
+    generator::fill(number, &mut words);
+    let requests = table::front(&words, generator::words(number));
     tally::add(tally, tally::TABLES);
     tally::add_if(tally, tally::LONGEST, requests.len() == 1024);
-    let space = tables::space(number);
-    let answer = compare::plan(number, requests, space, tables::room(number), tally);
+    let space = generator::space(number);
+    let answer = compare::plan(number, requests, space, generator::room(number), tally);
     if answer.number == 0 {
-        run_tight(number, requests, table::narrow(answer.need), tally);
+        run_tight(number, requests, numbers::narrow(answer.need), tally);
     }
 }
 
 fn run_all(tally: &mut [u64]) {
     let mut number = 0;
-    while number < tables::TABLES {
+    while number < generator::TABLES {
         run(number, tally);
         number += 1;
     }

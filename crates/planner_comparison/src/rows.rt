@@ -1,4 +1,5 @@
 // Request rows as the second planner and the test of all pairs see them, read from document 01 anew. Nothing here is the planner's or the inspector's.
+use crate::numbers;
 use crate::table;
 use answer::Answer;
 
@@ -14,6 +15,7 @@ pub(crate) fn count(requests: &[i32]) -> u64 {
     (requests.len() / 4) as u64
 }
 
+// Row numbers are far below 65,536, which keeps the sum from wrapping.
 pub(crate) fn read(requests: &[i32], row: u64) -> Request {
     let start = (row % 65536) * 4;
     Request {
@@ -30,7 +32,7 @@ pub(crate) fn is_fixed(request: Request) -> bool {
 
 // Whether a word is a multiple of 16, from 0.
 fn is_step(word: i32) -> bool {
-    (0 <= word) & (table::natural(word) % 16 == 0)
+    (0 <= word) & (numbers::natural(word) % 16 == 0)
 }
 
 fn is_good(request: Request) -> bool {
@@ -42,28 +44,29 @@ fn is_good(request: Request) -> bool {
 
 // The size in steps of 16 bytes, the last of them begun: what the row takes.
 pub(crate) fn taken(request: Request) -> u64 {
-    let size = table::natural(request.size);
+    let size = numbers::natural(request.size);
     if size % 16 == 0 {
         return size;
     }
-    table::sum(size - size % 16, 16)
+    numbers::sum(size - size % 16, 16)
 }
 
 // Whether two rows at two places are out at one moment on one byte. What both have of the moments is from the later first to the earlier last, and of
 // the bytes from the higher start to the lower end; an empty row has no byte.
 pub(crate) fn meet(a: Request, start_a: u64, b: Request, start_b: u64) -> bool {
-    let end_a = table::sum(start_a, taken(a));
-    let end_b = table::sum(start_b, taken(b));
-    let begin = table::larger(table::natural(a.first), table::natural(b.first));
-    let over = table::smaller(table::natural(a.last), table::natural(b.last));
-    (begin <= over) & (table::larger(start_a, start_b) < table::smaller(end_a, end_b))
+    let end_a = numbers::sum(start_a, taken(a));
+    let end_b = numbers::sum(start_b, taken(b));
+    let begin = numbers::larger(numbers::natural(a.first), numbers::natural(b.first));
+    let over = numbers::smaller(numbers::natural(a.last), numbers::natural(b.last));
+    (begin <= over) & (numbers::larger(start_a, start_b) < numbers::smaller(end_a, end_b))
 }
 
-pub(crate) fn refusal(number: u32, a: u64, b: u64, need: u64) -> Answer {
+// An answer, with a number of document 01.
+pub(crate) fn told(number: u32, a: u64, b: u64, need: u64) -> Answer {
     Answer {
         number,
-        a: table::narrow(a),
-        b: table::narrow(b),
+        a: numbers::narrow(a),
+        b: numbers::narrow(b),
         need,
     }
 }
@@ -96,19 +99,19 @@ pub(crate) fn check(requests: &[i32], space: u32, offsets: &[i32]) -> Answer {
     let room = offsets.len() as u64;
     let bad = lowest_refused(5, requests, offsets);
     if requests.len() % 4 != 0 {
-        return refusal(1, 0, 0, 0);
+        return told(1, 0, 0, 0);
     }
     if 256 < rows {
-        return refusal(2, 0, 0, 0);
+        return told(2, 0, 0, 0);
     }
     if room < rows {
-        return refusal(3, 0, 0, 0);
+        return told(3, 0, 0, 0);
     }
     if 16777216 < space {
-        return refusal(4, 0, 0, 0);
+        return told(4, 0, 0, 0);
     }
     if bad < rows {
-        return refusal(5, bad, 0, 0);
+        return told(5, bad, 0, 0);
     }
-    refusal(0, 0, 0, 0)
+    told(0, 0, 0, 0)
 }

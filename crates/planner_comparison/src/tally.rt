@@ -1,4 +1,5 @@
 // What was met, counted.
+use crate::numbers;
 use crate::table;
 use answer::Answer;
 use libc::STDOUT_FILENO;
@@ -17,12 +18,12 @@ pub const DISAGREEMENTS: u64 = 21;
 pub const COUNTS: usize = 22;
 
 pub(crate) fn add(tally: &mut [u64], at: u64) {
-    table::put(tally, at, table::sum(table::entry(tally, at), 1));
+    table::put(tally, at, numbers::sum(table::entry(tally, at), 1));
 }
 
 // Counts an answer's number, from a place on.
 pub(crate) fn add_answer(tally: &mut [u64], from: u64, answer: Answer) {
-    add(tally, table::sum(from, answer.number as u64));
+    add(tally, numbers::sum(from, answer.number as u64));
 }
 
 // Counts what was met, if it was.
@@ -47,7 +48,7 @@ fn print_answers(name: &[u8], tally: &[u64], from: u64, count: u64) {
         io::write_all(STDOUT_FILENO, name);
         io::write_all(STDOUT_FILENO, b" ");
         io::print_decimal(STDOUT_FILENO, number);
-        print_count(b":", table::entry(tally, table::sum(from, number)));
+        print_count(b":", table::entry(tally, numbers::sum(from, number)));
         number += 1;
     }
 }

@@ -1,6 +1,7 @@
 // The request tables that are compared. What a table is like are the digits of its number, so that every kind of sizes meets every kind of lives, of
 // offsets, of length and of faults; the rest is drawn.
 use crate::draw;
+use crate::numbers;
 use crate::table;
 
 // Each kind of sizes, lives, offsets, length and faults with each, 5 by 4 by 4 by 4 by 8, twice.
@@ -162,19 +163,19 @@ fn offset(number: u32, row: u32) -> i32 {
         return -1;
     }
     match number / 20 % 4 {
-        1 => table::signed(row as u64 * 512),
-        2 => table::signed(step * 16),
-        _ => table::signed(step * 64 + 16774720),
+        1 => numbers::signed(row as u64 * 512),
+        2 => numbers::signed(step * 16),
+        _ => numbers::signed(step * 64 + 16774720),
     }
 }
 
 fn put_row(number: u32, row: u32, requests: &mut [i32]) {
     let start = row as u64 * 4;
     let first = first(number, row);
-    let last = table::sum(first, length_of_life(number, row));
-    table::put_word(requests, start, table::signed(size(number, row) as u64));
-    table::put_word(requests, start + 1, table::signed(first));
-    table::put_word(requests, start + 2, table::signed(last));
+    let last = numbers::sum(first, length_of_life(number, row));
+    table::put_word(requests, start, numbers::signed(size(number, row) as u64));
+    table::put_word(requests, start + 1, numbers::signed(first));
+    table::put_word(requests, start + 2, numbers::signed(last));
     table::put_word(requests, start + 3, offset(number, row));
 }
 

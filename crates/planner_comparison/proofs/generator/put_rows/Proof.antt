@@ -1,10 +1,10 @@
--- `planner_comparison::tables::put_rows` is safe and ends.
+-- `planner_comparison::generator::put_rows` is safe and ends.
 use Prim.Native.Nat.{_-_}
 use mathlib.Core.Path.{_≡_}
 use native.Mathlib.Omega.{arith}
 use lib.ListN.{length}
-use Rattle.planner_comparison.proofs.tables.put_rows.Statement.{statement}
-use Rattle.planner_comparison.proofs.tables.put_rows.Tie as tie
+use Rattle.planner_comparison.proofs.generator.put_rows.Statement.{statement}
+use Rattle.planner_comparison.proofs.generator.put_rows.Tie as tie
 
 abbrev Inv-loop : tie.InvT-loop
 Inv-loop number requests₀ rows row₀ requests row = length requests ≡ length requests₀

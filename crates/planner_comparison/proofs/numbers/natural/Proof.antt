@@ -1,4 +1,4 @@
--- `planner_comparison::table::natural` is safe: a word that is not negative may be cast.
+-- `planner_comparison::numbers::natural` is safe: a word that is not negative may be cast.
 use Prim.Native.Nat.{_<_, _^_}
 use mathlib.Core.Bool.{false, true≢false}
 use mathlib.Core.Path.{_≡_}
@@ -9,8 +9,8 @@ use lib.Signed.{ltZ, nonNeg}
 use mir.Facts.{toZ-ofZ}
 use mir.Syntax.{w32, w64}
 use mir.Val.{Fits, SFits}
-use Rattle.planner_comparison.proofs.table.natural.Statement.{statement}
-use Rattle.planner_comparison.proofs.table.natural.Tie as tie
+use Rattle.planner_comparison.proofs.numbers.natural.Statement.{statement}
+use Rattle.planner_comparison.proofs.numbers.natural.Tie as tie
 
 castable : (x : ℤ) → SFits w32 x → ltZ x (pos 0) ≡ false → T (nonNeg x) × Fits w64 (natAbs x)
 castable (pos n) h e = (tt, omega (arith, h .sfits))
