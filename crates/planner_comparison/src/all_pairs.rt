@@ -78,19 +78,11 @@ pub(crate) fn read_places(words: &[i32], start: u64, apart: u64, count: u64, pla
     }
 }
 
-// The numbers 8, 9, 7 and 10, or 0 with the need.
-fn judge_rows(requests: &[i32], space: u32, offsets: &[i32]) -> Answer {
+// The numbers 7 and 10, or 0 with the need.
+fn judge_places(requests: &[i32], space: u32, offsets: &[i32]) -> Answer {
     let count = rows::count(requests);
-    let mut places = [0u64; 256];
+    let mut places = table::no_entries();
     read_places(offsets, 0, 1, count, &mut places);
-    let moved = rows::lowest_refused(8, requests, offsets);
-    if moved < count {
-        return rows::told(8, moved, 0, 0);
-    }
-    let uneven = rows::lowest_refused(9, requests, offsets);
-    if uneven < count {
-        return rows::told(9, uneven, 0, 0);
-    }
     let need = need(requests, &places);
     if (space as u64) < need {
         return rows::told(7, 0, 0, need);
@@ -100,6 +92,20 @@ fn judge_rows(requests: &[i32], space: u32, offsets: &[i32]) -> Answer {
         return rows::told(10, pair.a, pair.b, 0);
     }
     rows::told(0, 0, 0, need)
+}
+
+// The numbers 8 and 9, or what the places say.
+fn judge_rows(requests: &[i32], space: u32, offsets: &[i32]) -> Answer {
+    let count = rows::count(requests);
+    let moved = rows::lowest_refused(8, requests, offsets);
+    let uneven = rows::lowest_refused(9, requests, offsets);
+    if moved < count {
+        return rows::told(8, moved, 0, 0);
+    }
+    if uneven < count {
+        return rows::told(9, uneven, 0, 0);
+    }
+    judge_places(requests, space, offsets)
 }
 
 // What the inspector is to answer.

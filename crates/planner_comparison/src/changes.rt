@@ -1,4 +1,6 @@
 // Plans with one change each, so that the inspector meets bad ones.
+ghost use lib.ListN.{length};
+ghost use mathlib.Core.Path.{_≡_};
 use crate::draw;
 use crate::numbers;
 use crate::table;
@@ -7,20 +9,30 @@ use answer::Answer;
 // Entries enough for three more than the most rows that are tried.
 pub const OFFSETS: usize = 262;
 
-// How many changes of a plan are tried, a third of them of each kind.
-const CHANGES: u32 = 12;
+// What every lent entry holds before. No plan has it.
+const PATTERN: i32 = 9999;
+
+// How many changes of a plan are tried. The first is none, the others are by thirds of each kind.
+const CHANGES: u32 = 13;
 
 // What is drawn for a change: a row, and another one to exchange it with.
 const ROW: u32 = 61000;
 
 const OTHER_ROW: u32 = 62000;
 
-// How many changes are tried of what a planner left: only a plan is changed.
+// A table that nobody has written.
+pub(crate) fn unwritten() -> [i32; OFFSETS]
+    ensures { λ r. ⌜ length r ≡ 262 ⌝ }
+{
+    [PATTERN; OFFSETS]
+}
+
+// How many changes are tried of what a planner left. Of a refusal only the first is: its table is inspected as it is.
 pub(crate) fn count(answer: Answer) -> u32 {
     if answer.number == 0 {
         return CHANGES;
     }
-    0
+    1
 }
 
 // An offset one step of the grid up or down.
@@ -50,13 +62,16 @@ fn with_exchanged(offsets: [i32; OFFSETS], a: u64, b: u64) -> [i32; OFFSETS] {
     next
 }
 
-// The plan of so many rows with the change of that number: a row moved up, or down, or two exchanged.
+// The plan of so many rows with the change of that number: none, a row moved up, or down, or two exchanged.
 pub(crate) fn apply(
     offsets: [i32; OFFSETS],
     rows: u32,
     number: u32,
     change: u32,
 ) -> [i32; OFFSETS] {
+    if change == 0 {
+        return offsets;
+    }
     let row = draw::below(rows, number, ROW + change % 1000) as u64;
     let other = draw::below(rows, number, OTHER_ROW + change % 1000) as u64;
     match change % 3 {

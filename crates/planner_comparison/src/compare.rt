@@ -8,9 +8,6 @@ use crate::table;
 use crate::tally;
 use answer::Answer;
 
-// What every lent entry holds before. No plan has it.
-const PATTERN: i32 = 9999;
-
 fn same_answer(a: Answer, b: Answer) -> bool {
     (a.number == b.number) & (a.a == b.a) & (a.b == b.b) & (a.need == b.need)
 }
@@ -33,6 +30,13 @@ fn inspect(requests: &[i32], space: u32, offsets: &[i32], tally: &mut [u64]) {
     tally::add_answer(tally, tally::INSPECTOR, answer);
     let other = all_pairs::judge(requests, space, offsets);
     tally::add_if(tally, tally::DISAGREEMENTS, !same_answer(answer, other));
+}
+
+// Counts the planners' answer, and a disagreement where the two differ in it or in the tables after it.
+fn compare_plans(answer: Answer, other: Answer, same_offsets: bool, tally: &mut [u64]) {
+    let same = same_answer(answer, other) & same_offsets;
+    tally::add_answer(tally, tally::PLANNER, answer);
+    tally::add_if(tally, tally::DISAGREEMENTS, !same);
 }
 
 // The inspector's answers to so many changes of the offsets, of which so many are lent.
@@ -63,15 +67,19 @@ pub(crate) fn plan(
     room: u64,
     tally: &mut [u64],
 ) -> Answer {
-    let mut offsets = [PATTERN; changes::OFFSETS];
-    let mut others = [PATTERN; changes::OFFSETS];
+    let mut offsets = changes::unwritten();
+    let mut others = changes::unwritten();
     let answer = greedy_planner::plan(requests, space, table::lent_front(&mut offsets, room));
     let other = second_planner::plan(requests, space, table::lent_front(&mut others, room));
-    tally::add_answer(tally, tally::PLANNER, answer);
-    let same = same_answer(answer, other) & same_table(&offsets, &others);
-    tally::add_if(tally, tally::DISAGREEMENTS, !same);
-    inspect(requests, space, table::front(&offsets, room), tally);
-    let count = changes::count(answer);
-    inspect_changes(number, requests, space, offsets, room, count, tally);
+    compare_plans(answer, other, same_table(&offsets, &others), tally);
+    inspect_changes(
+        number,
+        requests,
+        space,
+        offsets,
+        room,
+        changes::count(answer),
+        tally,
+    );
     answer
 }

@@ -1,5 +1,7 @@
 // The request tables that are compared. What a table is like are the digits of its number, so that every kind of sizes meets every kind of lives, of
 // offsets, of length and of faults; the rest is drawn.
+ghost use lib.ListN.{length};
+ghost use mathlib.Core.Path.{_≡_};
 use crate::draw;
 use crate::numbers;
 use crate::table;
@@ -188,20 +190,45 @@ fn put_rows(number: u32, requests: &mut [i32]) {
     }
 }
 
-// Makes a row bad, in one of the ways in which it can be.
+// The ways in which a row is made bad: which of its words is changed,
+fn bad_column(way: u32) -> u64 {
+    match way {
+        0 | 1 => 0,
+        2 => 1,
+        3 | 4 => 2,
+        _ => 3,
+    }
+}
+
+// and to what.
+fn bad_word(way: u32) -> i32 {
+    match way {
+        1 => 16777217,
+        3 => 65536,
+        5 => -2,
+        6 => 8,
+        7 => 16777232,
+        8 => -2147483648,
+        _ => -1,
+    }
+}
+
+// Makes a row bad.
 fn spoil(number: u32, purpose: u32, requests: &mut [i32]) {
     let start = draw::below(rows(number), number, purpose) as u64 * 4;
-    match draw::below(9, number, purpose) {
-        0 => table::put_word(requests, start, -1),
-        1 => table::put_word(requests, start, 16777217),
-        2 => table::put_word(requests, start + 1, -1),
-        3 => table::put_word(requests, start + 2, 65536),
-        4 => table::put_word(requests, start + 2, -1),
-        5 => table::put_word(requests, start + 3, -2),
-        6 => table::put_word(requests, start + 3, 8),
-        7 => table::put_word(requests, start + 3, 16777232),
-        _ => table::put_word(requests, start + 3, -2147483648),
-    }
+    let way = draw::below(9, number, purpose);
+    table::put_word(
+        requests,
+        numbers::sum(start, bad_column(way)),
+        bad_word(way),
+    );
+}
+
+// Words that are not written yet. An array is made in a function of its own: where it is made, every later fact would carry its entries.
+pub(crate) fn no_words() -> [i32; GREATEST_WORDS]
+    ensures { λ r. ⌜ length r ≡ 1039 ⌝ }
+{
+    [0; GREATEST_WORDS]
 }
 
 // Writes the table's rows, of which up to two are bad where it is to have bad ones.

@@ -23,11 +23,10 @@ fn run_tight(number: u32, requests: &[i32], need: u32, tally: &mut [u64]) {
 
 // Plans a table in its own space and, where that is done, tightly.
 fn run(number: u32, tally: &mut [u64]) {
-    let mut words = [0i32; generator::GREATEST_WORDS];
+    let mut words = generator::no_words();
     generator::fill(number, &mut words);
     let requests = table::front(&words, generator::words(number));
-    tally::add(tally, tally::TABLES);
-    tally::add_if(tally, tally::LONGEST, requests.len() == 1024);
+    tally::add_table(tally, requests);
     let space = generator::space(number);
     let answer = compare::plan(number, requests, space, generator::room(number), tally);
     if answer.number == 0 {

@@ -1,4 +1,16 @@
 // Tables of numbers with readers and writers that are total: outside they read 0 and write nothing.
+ghost use lib.ListN.{length};
+ghost use mathlib.Core.Path.{_≡_};
+
+// As many entries as a table may have rows.
+pub const ROWS: usize = 256;
+
+pub(crate) fn no_entries() -> [u64; ROWS]
+    ensures { λ r. ⌜ length r ≡ 256 ⌝ }
+{
+    [0; ROWS]
+}
+
 pub(crate) fn entry(table: &[u64], at: u64) -> u64 {
     let at = at as usize;
     if table.len() <= at {

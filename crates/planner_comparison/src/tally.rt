@@ -17,7 +17,7 @@ pub const DISAGREEMENTS: u64 = 21;
 
 pub const COUNTS: usize = 22;
 
-pub(crate) fn add(tally: &mut [u64], at: u64) {
+fn add(tally: &mut [u64], at: u64) {
     table::put(tally, at, numbers::sum(table::entry(tally, at), 1));
 }
 
@@ -31,6 +31,12 @@ pub(crate) fn add_if(tally: &mut [u64], at: u64, met: bool) {
     if met {
         add(tally, at);
     }
+}
+
+// Counts a table, and whether it has 256 rows.
+pub(crate) fn add_table(tally: &mut [u64], requests: &[i32]) {
+    add(tally, TABLES);
+    add_if(tally, LONGEST, requests.len() == 1024);
 }
 
 // A line: what was counted, the number of the answer, if one is meant, and the count.
@@ -53,10 +59,14 @@ fn print_answers(name: &[u8], tally: &[u64], from: u64, count: u64) {
     }
 }
 
+fn print_named(name: &[u8], tally: &[u64], at: u64) {
+    print_count(name, table::entry(tally, at));
+}
+
 pub(crate) fn print(tally: &[u64]) {
-    print_count(b"tables", table::entry(tally, TABLES));
-    print_count(b"tables of 256 rows", table::entry(tally, LONGEST));
+    print_named(b"tables", tally, TABLES);
+    print_named(b"tables of 256 rows", tally, LONGEST);
     print_answers(b"planner", tally, PLANNER, 8);
     print_answers(b"inspector", tally, INSPECTOR, 11);
-    print_count(b"disagreements", table::entry(tally, DISAGREEMENTS));
+    print_named(b"disagreements", tally, DISAGREEMENTS);
 }
