@@ -5,7 +5,7 @@ pub(crate) fn natural(word: i32) -> u64 {
     if word < 0 {
         return 0;
     }
-    word as u64
+    word as u32 as u64
 }
 
 // The word of a number, or -1 where it has none.
