@@ -8,10 +8,10 @@ use units::Row;
 
 const WORD_BYTES: usize = 4;
 
-const ROW_BYTES: usize = WORD_BYTES * requests::ROW_WORDS;
+const ROW_BYTES: usize = WORD_BYTES * request_table::ROW_WORDS;
 
 // The bytes of the most rows.
-pub const GREATEST_BYTES: usize = ROW_BYTES * requests::GREATEST_ROWS;
+pub const GREATEST_BYTES: usize = ROW_BYTES * request_table::GREATEST_ROWS;
 
 // What the lines so far gave, beside the rows' bytes.
 pub struct Progress {
@@ -40,7 +40,7 @@ pub(crate) fn start() -> Progress {
 fn place_of(row: Row) -> usize
     ensures { λ r. ⌜ r ≤ 16 * greatestRows ⌝ }
 {
-    if requests::GREATEST_ROWS < row.0 {
+    if request_table::GREATEST_ROWS < row.0 {
         return GREATEST_BYTES;
     }
     ROW_BYTES * row.0
@@ -50,14 +50,14 @@ fn place_of(row: Row) -> usize
 // harm, since such a text gives no sheet. Of a row past the bytes it stores nothing.
 fn put_row(rows: &mut [u8; GREATEST_BYTES], row: Row, line: &[u8]) -> bool {
     let place = place_of(row);
-    for column in 0..requests::ROW_WORDS {
+    for column in 0..request_table::ROW_WORDS {
         let number = decimal_text::signed(text::word(line, column));
         if !number.good {
             return false;
         }
         word_bytes::put_word(rows, place + WORD_BYTES * column, number.value);
     }
-    text::word(line, requests::ROW_WORDS).len() == 0
+    text::word(line, request_table::ROW_WORDS).len() == 0
 }
 
 // Takes a line that is to be a row.
@@ -66,7 +66,7 @@ fn with_row(progress: Progress, line: &[u8], rows: &mut [u8; GREATEST_BYTES]) ->
     if !put_row(rows, row, line) {
         return Step::Refused(Reason::NotRow);
     }
-    if requests::GREATEST_ROWS <= row.0 {
+    if request_table::GREATEST_ROWS <= row.0 {
         return Step::Refused(Reason::TooManyRows);
     }
     Step::Taken(Progress {

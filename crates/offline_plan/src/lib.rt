@@ -7,7 +7,7 @@ ghost use Rattle.word_lists.specs.WordLists.{withWords};
 ghost use Rattle.offline_rule.specs.Answers.{Writable};
 ghost use Rattle.offline_rule.specs.OfflinePlan.{countPlace, isNumber, readOf, offsetsRead, planWords, writeOf, bytesWritten};
 use answer::Answer;
-use requests::GREATEST_ROWS;
+use request_table::GREATEST_ROWS;
 use word_lists::WORD_BYTES;
 
 // Where the third word stands, n.

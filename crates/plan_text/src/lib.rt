@@ -10,7 +10,7 @@ ghost use Rattle.plan_text.specs.Put.{Put, Room};
 ghost use Rattle.text_rule.specs.Text.{spaced, headLine, rowLine, rowLines, planText, refusedText, answerText, badSheetText, offsetIn};
 ghost use Rattle.plan_text.specs.Written.{hasRoom, writtenLength, writtenInto};
 use answer::Answer;
-use requests::GREATEST_ROWS;
+use request_table::GREATEST_ROWS;
 use units::Row;
 
 // Bytes enough for any text.

@@ -13,8 +13,8 @@ ghost use Rattle.request_table.specs.Limits.{greatestRows};
 ghost use Rattle.request_table.specs.Table.{rows};
 ghost use Rattle.request_sheet.specs.Replies.{Stands};
 ghost use Rattle.request_sheet.specs.Reply.{tableText, replyOf, textAfter};
-use requests::GREATEST_ROWS;
-use requests::ROW_WORDS;
+use request_table::GREATEST_ROWS;
+use request_table::ROW_WORDS;
 use sheet_bytes::REQUEST_WORDS;
 use sheet_bytes::Sheet;
 

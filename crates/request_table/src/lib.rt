@@ -1,6 +1,12 @@
-// The rows of the request table. What they mean is in specs/: good rows, occupied sizes, colliding, the need and the checks 1 to 5.
+// The rows of the request table, and how many there may be. What they mean is in specs/: good rows, occupied sizes, colliding, the need and the checks
+// 1 to 5.
 use units::Moment;
 use units::Offset;
+
+// A row of the table is this many words: size, first moment, last moment, fixed offset.
+pub const ROW_WORDS: usize = 4;
+// At most this many rows.
+pub const GREATEST_ROWS: usize = 256;
 
 // One row of the table. The offset of a row that is not fixed says nothing.
 pub struct Request {

@@ -9,6 +9,8 @@ ghost use Rattle.request_table.specs.Limits.{greatestRows};
 ghost use Rattle.request_table.specs.Table.{rows as rowsOf, word as wordOf, request, good, badRow};
 ghost use Rattle.request_table.specs.Checks.{shapeOf, contentOf, checkOf};
 use answer::Answer;
+pub use request_table::GREATEST_ROWS;
+pub use request_table::ROW_WORDS;
 use request_table::Request;
 use units::Moment;
 use units::Offset;
@@ -16,10 +18,6 @@ use units::Row;
 
 // The grid: rounding, fixed offsets and proposed offsets go by it.
 pub const GRID: u32 = 16;
-// A row of the table is this many words: size, first moment, last moment, fixed offset.
-pub const ROW_WORDS: usize = 4;
-// At most this many rows.
-pub const GREATEST_ROWS: usize = 256;
 // The greatest size, fixed offset and space.
 pub const GREATEST_SPACE: u32 = 16777216;
 // The last moment that a row may name.

@@ -5,8 +5,8 @@ ghost use mathlib.Core.Path.{_≡_};
 ghost use lib.ListN.{length, drop};
 ghost use Rattle.word_lists.specs.WordLists.{wordsFrom};
 ghost use Rattle.sheet_bytes.specs.Sheet.{marked, wellFormed, sheetOf, requestsRead};
-use requests::GREATEST_ROWS;
-use requests::ROW_WORDS;
+use request_table::GREATEST_ROWS;
+use request_table::ROW_WORDS;
 use word_lists::WORD_BYTES;
 
 // Where the parts of the head stand, behind the mark's three bytes.
