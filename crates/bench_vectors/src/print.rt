@@ -56,7 +56,7 @@ fn bits(table: &[i32], at: usize) -> u32 {
         return 0;
     }
     let mut bytes = [0u8; 4];
-    word_bytes::put_word(&mut bytes, 0, table[at]);
+    stored_words::put_word(&mut bytes, 0, table[at]);
     word_bytes::unsigned32(&bytes, 0)
 }
 

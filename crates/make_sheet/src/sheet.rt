@@ -55,7 +55,7 @@ fn put_row(rows: &mut [u8; GREATEST_BYTES], row: Row, line: &[u8]) -> bool {
         if !number.good {
             return false;
         }
-        word_bytes::put_word(rows, place + WORD_BYTES * column, number.value);
+        stored_words::put_word(rows, place + WORD_BYTES * column, number.value);
     }
     text::word(line, request_table::ROW_WORDS).len() == 0
 }

@@ -13,8 +13,9 @@ use Rattle.bounded.specs.Last.{end-none}
 use Rattle.lifetime_rule.specs.GoodUses.{tests}
 use Rattle.lifetime_rule.specs.Uses.{greatestOperators, greatestTensors, count, useAt}
 use Rattle.lifetime_rule.specs.declared.Use.{Use}
-use Rattle.tensor_lifetimes.specs.Gathered.{namedSoFar, readableSoFar, lifetimeSoFar, noLifetime, lifetimeWith, lifetimeIn, GoodList, HoldsLifetimes}
-use Rattle.tensor_lifetimes.specs.declared.Lifetime.{Lifetime}
+use Rattle.tensor_lifetimes.specs.Gathered.{namedSoFar, readableSoFar, lifetimeSoFar, noLifetime, lifetimeIn, GoodList, HoldsLifetimes}
+use Rattle.known_lifetimes.specs.OneUseMore.{lifetimeWith}
+use Rattle.known_lifetimes.specs.declared.Lifetime.{Lifetime}
 use Rattle.tensor_lifetimes.proofs.OneUse.{other-tensor, own-tensor}
 
 -- ---- before any use
@@ -70,7 +71,7 @@ module _ {operators : ℕ} {u : List ℤ} (g : GoodList operators u) {gathered :
       new =
           q
           ∙ ap (λ (y : Lifetime). lifetimeWith y x) (w .each (x .tensor .0) (within-limits g e l .0))
-          ∙ subst (λ (y : Use). lifetimeWith (lifetimeSoFar operators u j (y .tensor .0)) y ≡ lifetimeSoFar operators u (j + 1) (y .tensor .0)) (sym e) (own-tensor operators (g .tensors) u j (g .uses-good .each j l))
+          ∙ subst (λ (y : Use). lifetimeWith (lifetimeSoFar operators u j (y .tensor .0)) y ≡ lifetimeSoFar operators u (j + 1) (y .tensor .0)) (sym e) (own-tensor operators (g .tensors) u j (g .few-operators) (g .uses-good .each j l))
 
       go : (t : ℕ) → t < greatestTensors → (x .tensor .0 ≡ t) ⊎ (x .tensor .0 ≡ t → ⊥) → lifetimeIn (set gathered (x .tensor .0) v) t ≡ lifetimeSoFar operators u (j + 1) t
       go t m (inl d) =

@@ -20,7 +20,7 @@ use Rattle.lifetime_rule.specs.Uses.{reads, writes, modelInput, greatestOperato
 use Rattle.lifetime_rule.specs.declared.Use.{Use}
 use Rattle.tensor_lifetimes.specs.Gathered.{namedSoFar, readableSoFar, lifetimeSoFar, lifetimeIn, HoldsLifetimes, FewTensors, StorableLifetimes, unnamedIn, earlyIn, storedWord}
 use Rattle.tensor_lifetimes.proofs.OneUse.{known-high}
-use Rattle.tensor_lifetimes.specs.declared.Lifetime.{Lifetime}
+use Rattle.known_lifetimes.specs.declared.Lifetime.{Lifetime}
 
 -- A number is at least another exactly where it is not below it.
 not-below : (a b : ℕ) → leb b a ≡ not (ltb a b)

@@ -1,22 +1,23 @@
 -- What one use more adds to what is known of a tensor: by the definitions, by its role, and as the code works it out.
 use Prim.Native.Nat.{ℕ, _+_, _<_, _≤_, min, max, zero-le}
-use mathlib.Core.Bool.{Bool, true, false, _&&_, _||_, or-false}
+use mathlib.Core.Bool.{Bool, true, false, _||_, or-false}
 use mathlib.Core.List.{List}
 use mathlib.Core.Logic.{_⊎_, inl, inr, ⊎-elim}
 use mathlib.Core.Path.{_≡_, refl, sym, _∙_, ap}
 use native.Mathlib.Omega.{arith}
-use borrow.Author.Tests.{ltb-true, ltb-false, lt-ltb, le-ltb, eq-eqb, ne-eqb}
+use borrow.Author.Tests.{lt-ltb, le-ltb, eq-eqb, ne-eqb}
 use lib.Dec.{ltb, eqb}
 use lib.IntN.{ℤ}
-use Rattle.bounded.specs.Boolean.{both}
 use Rattle.bounded.specs.First.{firstIn, first-is, one-first, first-none, first-same, first-either, holds-more}
 use Rattle.bounded.specs.Last.{endIn, end-bound, end-after, end-none, end-same, end-either}
 use Rattle.lifetime_rule.specs.GoodUses.{Role, reading, writing, input, output, role-of, Tests, tests}
 use Rattle.lifetime_rule.specs.Lifetimes.{names, lets}
-use Rattle.lifetime_rule.specs.Uses.{reads, writes, modelInput, modelOutput, useAt, good}
+use Rattle.lifetime_rule.specs.Uses.{reads, writes, modelInput, modelOutput, greatestOperators, useAt, good}
 use Rattle.lifetime_rule.specs.declared.Use.{Use}
-use Rattle.tensor_lifetimes.specs.Gathered.{namedSoFar, readableSoFar, lifetimeSoFar, readableWith, lifetimeWith}
-use Rattle.tensor_lifetimes.specs.declared.Lifetime.{Lifetime}
+use Rattle.tensor_lifetimes.specs.Gathered.{namedSoFar, readableSoFar, lifetimeSoFar}
+use Rattle.known_lifetimes.proofs.EachWay.{lifetime-counts}
+use Rattle.known_lifetimes.specs.OneUseMore.{readableWith, lifetimeWith}
+use Rattle.known_lifetimes.specs.declared.Lifetime.{Lifetime}
 
 -- ---- one use more
 
@@ -125,57 +126,24 @@ module _ (x : Use) (m : ℕ) where
   unfolding lets
   input-lets q = rw (own, q)
 
--- ---- what the code makes of a use
+-- ---- what the code makes of a use, by its role
 
--- The lowest operator that may read the tensor, as each way through the code has it.
-module _ (r : ℕ) (x : Use) where
-  pub readable-input : x .role ≡ modelInput → 0 ≡ readableWith r x
-  unfolding readableWith
-  readable-input q = rw q
-
-  pub readable-write : (x .role ≡ modelInput → ⊥) → eqb (x .role) writes && ltb (x .operator .0 + 1) r ≡ true → x .operator .0 + 1 ≡ readableWith r x
-  unfolding readableWith
-  readable-write f e =
-      let a = both (eqb (x .role) writes) (ltb (x .operator .0 + 1) r) e in
-      let lower : x .operator .0 + 1 ≡ min r (x .operator .0 + 1) = omega (arith, ltb-true (x .operator .0 + 1) r (a .1)) in
-      rw (ne-eqb (x .role) modelInput f, readableWith, a .0) lower
-
-  pub readable-stays : (x .role ≡ modelInput → ⊥) → eqb (x .role) writes && ltb (x .operator .0 + 1) r ≡ false → r ≡ readableWith r x
-  unfolding readableWith
-  readable-stays f e = rw (ne-eqb (x .role) modelInput f, readableWith) (go (eqb (x .role) writes) e)
-    where
-      go : (b : Bool) → b && ltb (x .operator .0 + 1) r ≡ false → _≡_ {A = ℕ} r (elim b [ true ↦ min r (x .operator .0 + 1) | false ↦ r ])
-      go true q = omega (arith, ltb-false (x .operator .0 + 1) r q)
-      go false q = refl
-
--- The whole of what is known, as each way through the code has it,
-module _ (l : Lifetime) (x : Use) where
-  pub lifetime-stays : modelInput < x .role → l ≡ lifetimeWith l x
-  unfolding lifetimeWith
-  lifetime-stays h = rw (lt-ltb modelInput (x .role) h, lifetimeWith)
-
-  pub lifetime-counts : {f a r : ℕ} → x .role ≤ modelInput → f ≡ min (l .first .0) (x .operator .0) → a ≡ max (l .end .0) (x .operator .0 + 1) → r ≡ readableWith (l .readable .0) x
-      → _≡_ {A = Lifetime} (record { first = record { 0 = f }; end = record { 0 = a }; readable = record { 0 = r } }) (lifetimeWith l x)
-  unfolding lifetimeWith
-  lifetime-counts h p q s = rw (le-ltb modelInput (x .role) h, lifetimeWith) (λ i. record { first = record { 0 = p i }; end = record { 0 = q i }; readable = record { 0 = s i } })
-
--- and by the use's role.
-module _ (l : Lifetime) (x : Use) where
+module _ (l : Lifetime) (x : Use) (h : x .operator .0 ≤ greatestOperators) where
   abbrev with-readable : ℕ → Lifetime
   with-readable readable =
       record { first = record { 0 = min (l .first .0) (x .operator .0) }; end = record { 0 = max (l .end .0) (x .operator .0 + 1) }; readable = record { 0 = readable } }
 
   with-read : x .role ≡ reads → lifetimeWith l x ≡ with-readable (l .readable .0)
-  unfolding lifetimeWith readableWith
-  with-read q = rw q
+  unfolding readableWith
+  with-read q = sym (lifetime-counts l x (omega (arith, q)) h refl refl (rw q))
 
   with-write : x .role ≡ writes → lifetimeWith l x ≡ with-readable (min (l .readable .0) (x .operator .0 + 1))
-  unfolding lifetimeWith readableWith
-  with-write q = rw q
+  unfolding readableWith
+  with-write q = sym (lifetime-counts l x (omega (arith, q)) h refl refl (rw q))
 
   with-input : x .role ≡ modelInput → lifetimeWith l x ≡ with-readable 0
-  unfolding lifetimeWith readableWith
-  with-input q = rw q
+  unfolding readableWith
+  with-input q = sym (lifetime-counts l x (omega (arith, q)) h refl refl (rw q))
 
   with-output : x .role ≡ modelOutput → lifetimeWith l x ≡ l
   unfolding lifetimeWith
@@ -183,7 +151,7 @@ module _ (l : Lifetime) (x : Use) where
 
 -- ---- a use of the tensor itself
 
-module _ (operators tensors : ℕ) (u : List ℤ) (j : ℕ) where
+module _ (operators tensors : ℕ) (u : List ℤ) (j : ℕ) (few : operators ≤ greatestOperators) where
   abbrev usage : Use
   usage = useAt u j
 
@@ -192,27 +160,31 @@ module _ (operators tensors : ℕ) (u : List ℤ) (j : ℕ) where
 
   by-role : Tests operators tensors usage → Role (usage .role) → lifetimeWith known usage ≡ lifetimeSoFar operators u (j + 1) (usage .tensor .0)
   by-role g (reading q) =
+      let h : usage .operator .0 ≤ greatestOperators = omega (arith, g .operator, few) in
       let all : min (known .readable .0) operators ≡ known .readable .0 = omega (arith, known-high operators u j (usage .tensor .0) .2) in
-      with-read known usage q
+      with-read known usage h q
       ∙ sym
       (adds operators u j (usage .tensor .0) (first-at _ operators _ (g .operator) (λ m. acts-names usage m (inl q))) (end-at _ operators _ (g .operator) (λ m. acts-names usage m (inl q)))
       (first-none _ operators (λ m l. others-let usage m (inl q)))
-      ∙ ap (with-readable known usage) all)
+      ∙ ap (with-readable known usage h) all)
   by-role g (writing q) =
-      with-write known usage q
+      let h : usage .operator .0 ≤ greatestOperators = omega (arith, g .operator, few) in
+      with-write known usage h q
       ∙ sym
       (adds operators u j (usage .tensor .0) (first-at _ operators _ (g .operator) (λ m. acts-names usage m (inr q))) (end-at _ operators _ (g .operator) (λ m. acts-names usage m (inr q)))
       (first-after _ operators _ (g .operator) (λ m. write-lets usage m q)))
   by-role g (input q) =
+      let h : usage .operator .0 ≤ greatestOperators = omega (arith, g .operator, few) in
       let z : usage .operator .0 ≡ 0 = ⊎-elim (λ l. absurd (omega (arith, q))) (λ e. e) (g .zero-outside) in
       let all : min (known .readable .0) 0 ≡ 0 = omega arith in
-      with-input known usage q
+      with-input known usage h q
       ∙ sym
       (adds operators u j (usage .tensor .0) (first-at _ operators _ (g .operator) (λ m. input-names usage m q z)) (end-at _ operators _ (g .operator) (λ m. input-names usage m q z))
       (first-all _ operators (λ m. input-lets usage m q))
-      ∙ ap (with-readable known usage) all)
+      ∙ ap (with-readable known usage h) all)
   by-role g (output q) =
-      with-output known usage q ∙ nothing-added operators u j (usage .tensor .0) (λ m. output-names usage m q) (λ m. others-let usage m (inr q))
+      let h : usage .operator .0 ≤ greatestOperators = omega (arith, g .operator, few) in
+      with-output known usage h q ∙ nothing-added operators u j (usage .tensor .0) (λ m. output-names usage m q) (λ m. others-let usage m (inr q))
 
   -- A good use of the tensor adds what the code makes of it.
   pub own-tensor : good operators tensors usage ≡ true → lifetimeWith known usage ≡ lifetimeSoFar operators u (j + 1) (usage .tensor .0)

@@ -1,6 +1,6 @@
 -- What the code gathers of each tensor: what the first j uses say of it, one use after the other.
-use Prim.Native.Nat.{ℕ, _+_, _-_, _<_, _≤_, min, max}
-use mathlib.Core.Bool.{Bool, true, false, _&&_}
+use Prim.Native.Nat.{ℕ, _-_, _<_, _≤_}
+use mathlib.Core.Bool.{Bool, _&&_}
 use mathlib.Core.List.{List}
 use mathlib.Core.Path.{_≡_}
 use lib.Dec.{leb, ltb, eqb}
@@ -11,9 +11,8 @@ use Rattle.bounded.specs.Last.{endIn}
 use Rattle.bounded.specs.TwoEach.{twoEach}
 use Rattle.lifetime_rule.specs.Answers.{EachGood}
 use Rattle.lifetime_rule.specs.Lifetimes.{names, lets}
-use Rattle.lifetime_rule.specs.Uses.{reads, writes, modelInput, greatestOperators, greatestTensors, count, useAt}
-use Rattle.lifetime_rule.specs.declared.Use.{Use}
-use Rattle.tensor_lifetimes.specs.declared.Lifetime.{Lifetime}
+use Rattle.lifetime_rule.specs.Uses.{reads, greatestOperators, greatestTensors, count, useAt}
+use Rattle.known_lifetimes.specs.declared.Lifetime.{Lifetime}
 
 -- Operator m names tensor t in one of the first j uses.
 unfoldable pub namedSoFar : List ℤ → ℕ → ℕ → ℕ → Bool
@@ -35,22 +34,6 @@ lifetimeSoFar operators u j t =
 -- What is known of a tensor before any use.
 abbrev pub noLifetime : ℕ → Lifetime
 noLifetime operators = record { first = record { 0 = operators }; end = record { 0 = 0 }; readable = record { 0 = operators } }
-
--- The lowest operator that may read a tensor, with one use of it more.
-unfoldable pub readableWith : ℕ → Use → ℕ
-readableWith r x = elim (eqb (x .role) modelInput) [ true ↦ 0 | false ↦ elim (eqb (x .role) writes) [ true ↦ min r (x .operator .0 + 1) | false ↦ r ] ]
-
--- What is known of a tensor with one use of it more.
-unfoldable pub lifetimeWith : Lifetime → Use → Lifetime
-lifetimeWith l x =
-    elim (ltb modelInput (x .role)) [
-      | true ↦ l
-      | false ↦ record {
-        first = record { 0 = min (l .first .0) (x .operator .0) };
-        end = record { 0 = max (l .end .0) (x .operator .0 + 1) };
-        readable = record { 0 = readableWith (l .readable .0) x };
-      }
-    ]
 
 -- The life of a tensor in an array; past its end, one of zeros.
 abbrev pub lifetimeIn : List Lifetime → ℕ → Lifetime

@@ -12,20 +12,12 @@ ghost use Rattle.lifetime_rule.specs.FromUses.{judgedOf, lifetimesOf, finalLife
 ghost use Rattle.lifetime_rule.specs.Uses.{count as countOf, greatestTensors, greatestUses};
 ghost use Rattle.tensor_lifetimes.specs.Gathered.{HoldsLifetimes, StorableLifetimes, FewTensors, unnamedIn, earlyIn, storedWord};
 use answer::Answer;
+use known_lifetimes::Lifetime;
 use operator_uses::GREATEST_TENSORS;
 use operator_uses::LIFETIME_WORDS;
 use operator_uses::READS;
 use operator_uses::USE_WORDS;
-use units::Moment;
 use units::Tensor;
-
-// What the uses say of a tensor: the lowest operator that names it, one past the highest that does, and the lowest that may read it. Where there is none,
-// the number of operators stands for a lowest one, and the end is 0.
-pub struct Lifetime {
-    pub first: Moment,
-    pub end: Moment,
-    pub readable: Moment,
-}
 
 // The lowest tensor that no operator names, else the number of tensors.
 fn lowest_unnamed(operators: u32, tensors: u32, gathered: [Lifetime; GREATEST_TENSORS]) -> Tensor

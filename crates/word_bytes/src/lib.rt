@@ -1,9 +1,9 @@
-// Little-endian bytes as words of 32 bits, and back. Every call is allowed: a byte outside the slice reads as 0 and is not written,
-// and no place is too far on, so that no caller has a bound to show before it reads.
+// Little-endian bytes as words of 32 bits. Every call is allowed: a byte outside the slice reads as 0, and no place is too far on, so that no caller has
+// a bound to show before it reads.
 ghost use mathlib.Core.Path.{_≡_};
 ghost use Prim.Native.Nat.{_+_};
-ghost use lib.ListN.{getD, set};
-ghost use Rattle.word_bytes.specs.Bytes.{littleEndian, signedWord, unsignedWord, wordOf, withWord};
+ghost use lib.ListN.{getD};
+ghost use Rattle.word_bytes.specs.Bytes.{littleEndian, signedWord, wordOf};
 
 // The byte some way ahead of a place. The two are compared with the length one by one, since their sum may not fit.
 fn byte(bytes: &[u8], at: usize, ahead: usize) -> u8
@@ -16,18 +16,6 @@ fn byte(bytes: &[u8], at: usize, ahead: usize) -> u8
         }
     }
     0
-}
-
-// Sets the byte some way ahead of a place.
-fn put_byte(bytes: &mut [u8], at: usize, ahead: usize, value: u8)
-    ensures { λ _. ⌜ now (bytes .exit) ≡ set (now (bytes .entry)) (at + ahead) value ⌝ }
-{
-    if at < bytes.len() {
-        if ahead < bytes.len() - at {
-            let place = at + ahead;
-            bytes[place] = value;
-        }
-    }
 }
 
 // The two bytes from a place on, the lowest first, as an unsigned number.
@@ -61,34 +49,9 @@ fn signed(bits: u32) -> i32
     -1 - below
 }
 
-// The bits of a signed number.
-fn unsigned(number: i32) -> u32
-    ensures { λ r. ⌜ r ≡ unsignedWord number ⌝ }
-{
-    if number < 0 {
-        let below = (-1 - number) as u32;
-        return 4294967295 - below;
-    }
-    number as u32
-}
-
 // The signed word in the four bytes from a place on.
 pub fn word(bytes: &[u8], at: usize) -> i32
     ensures { λ r. ⌜ r ≡ wordOf (now (bytes .entry)) at ⌝ }
 {
     signed(unsigned32(bytes, at))
-}
-
-// Sets the four bytes from a place on to the word's.
-pub fn put_word(bytes: &mut [u8], at: usize, word: i32)
-    ensures { λ _. ⌜ now (bytes .exit) ≡ withWord (now (bytes .entry)) at word ⌝ }
-{
-    let bits = unsigned(word);
-    let second = bits / 256;
-    let third = second / 256;
-    let fourth = third / 256;
-    put_byte(bytes, at, 0, (bits % 256) as u8);
-    put_byte(bytes, at, 1, (second % 256) as u8);
-    put_byte(bytes, at, 2, (third % 256) as u8);
-    put_byte(bytes, at, 3, (fourth % 256) as u8);
 }

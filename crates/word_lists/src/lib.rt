@@ -26,7 +26,7 @@ fn put_word_of(bytes: &mut [u8], number: usize, word: i32)
     if bytes.len() / WORD_BYTES < number {
         return;
     }
-    word_bytes::put_word(bytes, number * WORD_BYTES, word);
+    stored_words::put_word(bytes, number * WORD_BYTES, word);
 }
 
 // Fills a table with the words of the bytes.

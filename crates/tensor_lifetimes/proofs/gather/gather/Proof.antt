@@ -32,7 +32,7 @@ array-copy-out-lifetime : tie.Need-array-copy-out-lifetime Inv-loop μ-loop
 array-copy-out-lifetime c = limits c .0
 
 lifetime-with-requires : tie.Need-lifetime-with-requires Inv-loop μ-loop
-lifetime-with-requires c κs = limits (c .before) .1
+lifetime-with-requires c κs = tt
 
 mul-gathered : tie.Need-mul-gathered Inv-loop μ-loop
 mul-gathered c = omega (arith, limits (c .before .before) .0)

@@ -1,4 +1,4 @@
--- `word_bytes::unsigned` meets its contract: by the number's sign.
+-- `stored_words::unsigned` meets its contract: by the number's sign.
 use mathlib.Core.Path.{_≡_, ap}
 use native.Mathlib.Omega.{arith}
 use lib.Dec.{T}
@@ -6,11 +6,11 @@ use lib.IntN.{pos, negsuc, natAbs, _-ℤ_}
 use lib.Signed.{mag, nonNeg, pos-natAbs}
 use mir.Syntax.{w32}
 use mir.Val.{ofZ, toZ, Fits}
 use Rattle.word_bytes.specs.Bytes.{unsignedWord}
 use Rattle.words.proofs.Signed.{read, castable}
 use Rattle.word_bytes.proofs.Turned.{fits, below, bits}
-use Rattle.word_bytes.proofs.unsigned.Statement.{statement}
-use Rattle.word_bytes.proofs.unsigned.Tie as tie
+use Rattle.stored_words.proofs.unsigned.Statement.{statement}
+use Rattle.stored_words.proofs.unsigned.Tie as tie
 
 -- What the local holds is the number,
 held : (c : tie.Start) → toZ w32 (ofZ w32 (c .args .number)) ≡ c .args .number

@@ -1,11 +1,11 @@
--- `word_bytes::put_word` meets its contract: each call sets one byte of the definition's nest, the last one outermost.
+-- `stored_words::put_word` meets its contract: each call sets one byte of the definition's nest, the last one outermost.
 use mathlib.Core.Path.{ap, _∙_}
 use borrow.Author.Needs.{needs}
 use Rattle.word_bytes.specs.Bytes.{withLittleEndian, unsignedWord, withWord}
-use Rattle.word_bytes.proofs.Ahead.{four-put}
+use Rattle.stored_words.proofs.Ahead.{four-put}
 use Rattle.words.proofs.Signed.{read}
-use Rattle.word_bytes.proofs.put_word.Statement.{statement}
-use Rattle.word_bytes.proofs.put_word.Tie as tie
+use Rattle.stored_words.proofs.put_word.Statement.{statement}
+use Rattle.stored_words.proofs.put_word.Tie as tie
 
 unsigned-requires : tie.Need-unsigned-requires
 unsigned-requires c κs = search needs

@@ -1,11 +1,11 @@
--- `word_bytes::put_byte` meets its contract: outside the slice a `set` changes nothing.
+-- `stored_words::put_byte` meets its contract: outside the slice a `set` changes nothing.
 use Prim.Native.Nat.{_+_}
 use mathlib.Core.Path.{sym}
 use native.Mathlib.Omega.{arith}
 use borrow.Author.Needs.{needs}
 use lib.Seq.{set-out}
-use Rattle.word_bytes.proofs.put_byte.Statement.{statement}
-use Rattle.word_bytes.proofs.put_byte.Tie as tie
+use Rattle.stored_words.proofs.put_byte.Statement.{statement}
+use Rattle.stored_words.proofs.put_byte.Tie as tie
 
 sub-if2 : tie.Need-sub-if2
 sub-if2 c = search needs

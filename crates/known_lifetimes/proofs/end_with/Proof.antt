@@ -1,7 +1,7 @@
--- `tensor_lifetimes::gather::end_with` meets its contract.
+-- `known_lifetimes::end_with` meets its contract.
 use native.Mathlib.Omega.{arith}
-use Rattle.tensor_lifetimes.proofs.gather.end_with.Statement.{statement}
-use Rattle.tensor_lifetimes.proofs.gather.end_with.Tie as tie
+use Rattle.known_lifetimes.proofs.end_with.Statement.{statement}
+use Rattle.known_lifetimes.proofs.end_with.Tie as tie
 
 add-t4 : tie.Need-add-t4
 add-t4 c = omega (arith, c .before .pre)

@@ -1,7 +1,7 @@
--- `tensor_lifetimes::gather::first_with` meets its contract.
+-- `known_lifetimes::first_with` meets its contract.
 use native.Mathlib.Omega.{arith}
-use Rattle.tensor_lifetimes.proofs.gather.first_with.Statement.{statement}
-use Rattle.tensor_lifetimes.proofs.gather.first_with.Tie as tie
+use Rattle.known_lifetimes.proofs.first_with.Statement.{statement}
+use Rattle.known_lifetimes.proofs.first_with.Tie as tie
 
 returns : tie.Need-returns
 returns c = omega (arith, c .if1 .taken)

@@ -1,8 +1,8 @@
--- `tensor_lifetimes::gather::readable_with` meets its contract.
+-- `known_lifetimes::readable_with` meets its contract.
 use borrow.Author.Needs.{needs}
-use Rattle.tensor_lifetimes.proofs.OneUse.{readable-input, readable-write, readable-stays}
-use Rattle.tensor_lifetimes.proofs.gather.readable_with.Statement.{statement}
-use Rattle.tensor_lifetimes.proofs.gather.readable_with.Tie as tie
+use Rattle.known_lifetimes.proofs.EachWay.{readable-input, readable-write, readable-stays}
+use Rattle.known_lifetimes.proofs.readable_with.Statement.{statement}
+use Rattle.known_lifetimes.proofs.readable_with.Tie as tie
 
 returns : tie.Need-returns
 returns c = readable-input _ _ (c .if1 .taken)
