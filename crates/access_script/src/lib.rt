@@ -1,108 +1,25 @@
 // Running a touch script over a lent arena (document 01, "The desk's order of checks"): the whole script is judged before the first touch, and on
 // refusal not a byte changes. The document's touch is an access here.
 ghost use Prim.Native.Nat.{_<_, _≤_};
-ghost use mathlib.Core.Bool.{true, _&&_};
+ghost use mathlib.Core.Bool.{true};
 ghost use mathlib.Core.Path.{_≡_};
-ghost use lib.Dec.{leb};
 ghost use lib.ListN.{length};
-ghost use Rattle.bounded.specs.First.{firstIn};
 ghost use Rattle.bounded.specs.Replaced.{replaced};
 ghost use Rattle.request_table.specs.Limits.{grid as gridOf};
-ghost use Rattle.access_rule.specs.Accesses.{count as countOf, access, reaches, badAccess, allowed, greatestAccesses};
+ghost use Rattle.access_rule.specs.Accesses.{count as countOf, allowed, greatestAccesses};
 ghost use Rattle.access_rule.specs.Ready.{Ready};
 ghost use Rattle.access_rule.specs.Run.{byteOf, arenaBy, byteBy, arenaAfter, answerByte};
-ghost use Rattle.access_rule.specs.Script.{lengthsOf, touchesOf, scriptOf, finalArena, finalBytes};
+ghost use Rattle.access_rule.specs.Script.{touchesOf, scriptOf, finalArena, finalBytes};
 use access_rule::Access;
+use accesses::ACCESS_WORDS;
 use answer::Answer;
-use units::Moment;
-use units::Row;
-
-// A touch is this many words: moment, request row, index, value.
-pub const ACCESS_WORDS: usize = 4;
-// At most this many touches.
-pub const GREATEST_ACCESSES: usize = 4096;
-// The greatest value that a touch may write.
-const GREATEST_BYTE: u32 = 255;
-
-// Touch k of the script.
-fn access_at(accesses: &[i32], k: usize) -> Access
-    requires { ⌜ k < countOf (now accesses) ⌝ }
-    ensures { λ r. ⌜ r ≡ access (now (accesses .entry)) k ⌝ }
-{
-    let at = k * ACCESS_WORDS;
-    let moment = words::natural(accesses, at);
-    let row = words::natural(accesses, at + 1);
-    let index = words::natural(accesses, at + 2);
-    let reads = words::is_minus_one(accesses, at + 3);
-    let value = words::natural(accesses, at + 3);
-    Access {
-        moment: Moment(moment),
-        row: Row(row as usize),
-        index,
-        reads,
-        value,
-    }
-}
-
-// A good touch: its moment is at least the one before, it names a row alive at that moment and a byte within the row's size, and its value is allowed.
-fn is_good(table: &[i32], before: Moment, access: Access) -> bool
-    ensures { λ r. ⌜ r ≡ leb (before .0) (access .moment .0) && reaches (now (table .entry)) access ⌝ }
-{
-    let row = access.row;
-    let request = requests::request_at(table, row);
-    let rises = before.0 <= access.moment.0;
-    let listed = row.0 < table.len() / requests::ROW_WORDS;
-    let alive = (request.first.0 <= access.moment.0) & (access.moment.0 <= request.last.0);
-    let within = access.index < request.size;
-    let allowed = access.reads | (access.value <= GREATEST_BYTE);
-    rises & (listed & (alive & (within & allowed)))
-}
-
-// The lowest bad touch, else the number of touches. Each moment is compared with the one before.
-fn lowest_bad(table: &[i32], accesses: &[i32]) -> usize
-    ensures { λ r. ⌜ r ≡ firstIn (badAccess (now (table .entry)) (now (accesses .entry))) 0 (countOf (now (accesses .entry))) ⌝ }
-{
-    let n = accesses.len() / ACCESS_WORDS;
-    let mut before = Moment(0);
-    let mut k = 0;
-    while k < n {
-        let access = access_at(accesses, k);
-        if !is_good(table, before, access) {
-            return k;
-        }
-        before = access.moment;
-        k += 1;
-    }
-    k
-}
-
-// The checks 1 to 3, each for either of two tables.
-fn check_lengths(requests: &[i32], offsets: &[i32], accesses: &[i32], room: usize) -> Answer
-    ensures { λ r. ⌜ r ≡ lengthsOf (now (requests .entry)) (now (offsets .entry)) (now (accesses .entry)) room ⌝ }
-{
-    let rows = requests.len() / requests::ROW_WORDS;
-    let count = accesses.len() / ACCESS_WORDS;
-    let ragged = (requests.len() % requests::ROW_WORDS != 0) | (accesses.len() % ACCESS_WORDS != 0);
-    let too_many = (requests::GREATEST_ROWS < rows) | (GREATEST_ACCESSES < count);
-    let too_short = (offsets.len() < rows) | (room < count);
-    if ragged {
-        return Answer::refused(Answer::NOT_WHOLE_ROWS);
-    }
-    if too_many {
-        return Answer::refused(Answer::TOO_MANY);
-    }
-    if too_short {
-        return Answer::refused(Answer::TABLE_TOO_SHORT);
-    }
-    Answer::done(0)
-}
 
 // The checks 12 and 11: the arena, which is told with no place, and the touches.
 fn judge_accesses(requests: &[i32], space: u32, accesses: &[i32], held: usize) -> Answer
     requires { ⌜ countOf (now accesses) ≤ greatestAccesses ⌝ }
     ensures { λ r. ⌜ r ≡ touchesOf (now (requests .entry)) space (now (accesses .entry)) held ⌝ }
 {
-    let bad = lowest_bad(requests, accesses);
+    let bad = accesses::lowest_bad(requests, accesses);
     let place = bad as u32;
     let flawed = bad < accesses.len() / ACCESS_WORDS;
     let arena_short = held < space as usize;
@@ -127,7 +44,7 @@ fn judge(
 ) -> Answer
     ensures { λ r. ⌜ r ≡ scriptOf grid (now (requests .entry)) space (now (offsets .entry)) (now (accesses .entry)) held room ⌝ }
 {
-    let lengths = check_lengths(requests, offsets, accesses, room);
+    let lengths = accesses::check_lengths(requests, offsets, accesses, room);
     if lengths.number != Answer::DONE {
         return lengths;
     }
@@ -172,7 +89,7 @@ fn perform(offsets: &[i32], accesses: &[i32], arena: &mut [u8], bytes: &mut [u8]
     let n = accesses.len() / ACCESS_WORDS;
     let mut k = 0;
     while k < n {
-        let byte = touch(offsets, access_at(accesses, k), arena);
+        let byte = touch(offsets, accesses::access_at(accesses, k), arena);
         bytes[k] = byte;
         k += 1;
     }

@@ -15,7 +15,7 @@ loop-holds : tie.Need-loop-holds Inv-loop μ-loop
 loop-holds c = performed-start _ _ _ _
 
 access-at-requires : tie.Need-access-at-requires Inv-loop μ-loop
-access-at-requires c κs = omega (arith, c .loop-test .taken)
+access-at-requires c κs = tt
 
 touch-requires : tie.Need-touch-requires Inv-loop μ-loop
 touch-requires c κs =

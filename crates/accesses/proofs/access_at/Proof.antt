@@ -1,9 +1,12 @@
--- `access_script::access_at` meets its contract.
+-- `accesses::access_at` meets its contract.
 use denote.Ref.{now}
 use borrow.Author.Needs.{needs}
-use Rattle.access_script.proofs.Judging.{access-is}
-use Rattle.access_script.proofs.access_at.Statement.{statement}
-use Rattle.access_script.proofs.access_at.Tie as tie
+use Rattle.accesses.proofs.Judging.{access-is, access-past}
+use Rattle.accesses.proofs.access_at.Statement.{statement}
+use Rattle.accesses.proofs.access_at.Tie as tie
+
+returns : tie.Need-returns
+returns c = access-past _ _ (c .if1 .taken)
 
 mul-at : tie.Need-mul-at
 mul-at c = search needs
@@ -38,19 +41,20 @@ natural-requires-4 c κs = search needs
 cast-t9 : tie.Need-cast-t9
 cast-t9 c = search needs
 
-returns : tie.Need-returns
-returns c =
+returns-2 : tie.Need-returns-2
+returns-2 c =
     let is = c .before in
     let index = is .before in
     let row = index .before in
     let moment = row .before in
-    let a = moment .before .args in
+    let a = moment .before .before .args in
     access-is (now (a .accesses)) (a .k) (moment .natural .ensures) (row .natural2 .ensures) (index .natural3 .ensures) (is .is-minus-one .ensures) (c .natural4 .ensures)
 
 pub access-at-spec : {M : Type 1} → statement M
 access-at-spec =
     tie.close
     (tie.spec
+    returns
     mul-at
     natural-requires
     add-natural
@@ -62,4 +66,4 @@ access-at-spec =
     add-natural-3
     natural-requires-4
     cast-t9
-    returns)
+    returns-2)

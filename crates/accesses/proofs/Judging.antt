@@ -1,12 +1,13 @@
 -- A touch from its words, and one turn of the scan of the touches.
-use Prim.Native.Nat.{ℕ, _+_, _*_}
-use mathlib.Core.Bool.{Bool, _&&_}
+use Prim.Native.Nat.{ℕ, _+_, _*_, _≤_}
+use mathlib.Core.Bool.{Bool, false, _&&_}
 use mathlib.Core.List.{List}
-use mathlib.Core.Path.{_≡_, _∙_, ap}
+use mathlib.Core.Path.{_≡_, sym, _∙_, ap}
 use native.Mathlib.Numerals.{add-one}
 use native.Mathlib.Omega.{arith}
 use lib.Dec.{leb, ltb}
-use lib.IntN.{ℤ}
+use lib.IntN.{ℤ, pos}
+use lib.ListN.{length, List·getD-eq-default}
 use Rattle.words.specs.Words.{wordAt, natural, isMinusOne}
 use Rattle.request_table.specs.Table.{rows, word, request}
 use Rattle.request_table.specs.declared.Request.{Request}
@@ -22,6 +23,17 @@ access-is s k m r i b v =
     let start : k * 4 ≡ k * 4 + 0 = omega arith in
     let first = m ∙ ap (λ (n : ℕ). natural (wordAt s n)) start in
     λ j. record { moment = record { 0 = first j }; row = record { 0 = r j }; index = i j; reads = b j; value = v j }
+
+-- A touch past the end of the script, of zeros.
+pub access-past : (s : List ℤ) (k : ℕ) → length s ≤ k
+    → _≡_ {A = Access} (record { moment = record { 0 = 0 }; row = record { 0 = 0 }; index = 0; reads = false; value = 0 }) (access s k)
+unfolding natural isMinusOne
+access-past s k l =
+    access-is s k (zero (k * 4) (omega arith)) (zero (k * 4 + 1) (omega arith)) (zero (k * 4 + 2) (omega arith))
+    (sym (ap isMinusOne (List·getD-eq-default s (pos 0) (omega arith)))) (zero (k * 4 + 3) (omega arith))
+  where
+    zero : (i : ℕ) → length s ≤ i → 0 ≡ natural (wordAt s i)
+    zero i m = sym (ap natural (List·getD-eq-default s (pos 0) m))
 
 -- The test on the request that was read is the test on the row that the touch names.
 pub test-is : (t : List ℤ) (m : ℕ) (a : Access) {x : Request} → x ≡ request t (a .row .0)

@@ -1,9 +1,9 @@
--- `access_script::check_lengths` meets its contract: each way out is the first cause that holds.
+-- `accesses::check_lengths` meets its contract: each way out is the first cause that holds.
 use borrow.Author.Needs.{needs}
 use Rattle.bounded.specs.Causes.{firstCause}
 use Rattle.access_rule.specs.Script.{lengthsOf}
-use Rattle.access_script.proofs.check_lengths.Statement.{statement}
-use Rattle.access_script.proofs.check_lengths.Tie as tie
+use Rattle.accesses.proofs.check_lengths.Statement.{statement}
+use Rattle.accesses.proofs.check_lengths.Tie as tie
 
 refused-requires : tie.Need-refused-requires
 refused-requires c κs = search needs

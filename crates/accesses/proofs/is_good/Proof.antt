@@ -1,9 +1,9 @@
--- `access_script::is_good` meets its contract.
+-- `accesses::is_good` meets its contract.
 use denote.Ref.{now}
 use borrow.Author.Needs.{needs}
-use Rattle.access_script.proofs.Judging.{test-is}
-use Rattle.access_script.proofs.is_good.Statement.{statement}
-use Rattle.access_script.proofs.is_good.Tie as tie
+use Rattle.accesses.proofs.Judging.{test-is}
+use Rattle.accesses.proofs.is_good.Statement.{statement}
+use Rattle.accesses.proofs.is_good.Tie as tie
 
 request-at-requires : tie.Need-request-at-requires
 request-at-requires c κs = search needs

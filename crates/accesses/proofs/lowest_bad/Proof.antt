@@ -1,4 +1,4 @@
--- `access_script::lowest_bad` meets its contract: the scan of the touches, which carries the moment of the touch before.
+-- `accesses::lowest_bad` meets its contract: the scan of the touches, which carries the moment of the touch before.
 use Prim.Native.Nat.{_-_}
 use mathlib.Core.Bool.{not}
 use mathlib.Core.Path.{_≡_, refl, sym, _∙_, ap}
@@ -6,9 +6,9 @@ use native.Mathlib.Omega.{arith}
 use denote.Ref.{now}
 use Rattle.bounded.specs.First.{Scan, scan, pass, hit, out}
 use Rattle.access_rule.specs.Accesses.{momentBefore, badAccess}
-use Rattle.access_script.proofs.Judging.{good-is, moment-after}
-use Rattle.access_script.proofs.lowest_bad.Statement.{statement}
-use Rattle.access_script.proofs.lowest_bad.Tie as tie
+use Rattle.accesses.proofs.Judging.{good-is, moment-after}
+use Rattle.accesses.proofs.lowest_bad.Statement.{statement}
+use Rattle.accesses.proofs.lowest_bad.Tie as tie
 
 abbrev Inv-loop : tie.InvT-loop
 Inv-loop table accesses n before₀ k₀ before k = (before .0 ≡ momentBefore accesses k) × Scan (badAccess table accesses) 0 n k
@@ -21,7 +21,7 @@ unfolding momentBefore
 loop-holds c = (refl, scan _ _ _)
 
 access-at-requires : tie.Need-access-at-requires Inv-loop μ-loop
-access-at-requires c κs = c .loop-test .taken
+access-at-requires c κs = tt
 
 is-good-requires : tie.Need-is-good-requires Inv-loop μ-loop
 is-good-requires c κs = tt
