@@ -1,8 +1,8 @@
 // The plan inspector: judges a plan that anyone may have proposed, one offset for each row of the request table (document 01, "The desk's order of
 // checks"). All is read where it lies; nothing is written.
-ghost use Prim.Native.Nat.{_≤_, max};
+ghost use Prim.Native.Nat.{_≤_};
 ghost use mathlib.Core.Path.{_≡_};
-ghost use Rattle.request_table.specs.Buffers.{bufferAt, endOrZero};
+ghost use Rattle.request_table.specs.Buffers.{bufferAt};
 ghost use Rattle.request_table.specs.Limits.{grid as gridOf, greatestRows};
 ghost use Rattle.request_table.specs.Table.{rows as rowsOf};
 ghost use Rattle.inspection_rule.specs.Inspect.{proposed, proposedNeed, pairOf, proposalOf, inspectOf};
@@ -19,43 +19,6 @@ fn buffer_of(grid: u32, table: &[i32], offsets: &[i32], row: Row) -> Buffer
         requests::request_at(table, row),
         proposals::proposed_at(offsets, row),
     )
-}
-
-// The end of the row's span, in 64 bits, which no proposed offset and no size can pass; an empty row counts for nothing.
-fn end_of(grid: u32, table: &[i32], offsets: &[i32], row: Row) -> u64
-    ensures { λ r. ⌜ r ≡ endOrZero (bufferAt grid (now (table .entry)) (row .0) (proposed (now (offsets .entry)) (row .0))) ⌝ }
-{
-    let request = requests::request_at(table, row);
-    let length = alignment::round_up(grid, request.size);
-    let start = proposals::proposed_at(offsets, row);
-    if 0 < length {
-        return start.0 + length;
-    }
-    0
-}
-
-// The larger of two ends.
-fn larger(a: u64, b: u64) -> u64
-    ensures { λ r. ⌜ r ≡ max a b ⌝ }
-{
-    if a < b {
-        return b;
-    }
-    a
-}
-
-// The need of the proposed plan: the greatest end of a nonempty row.
-fn need_of(grid: u32, table: &[i32], offsets: &[i32]) -> u64
-    ensures { λ r. ⌜ r ≡ proposedNeed grid (now (table .entry)) (now (offsets .entry)) ⌝ }
-{
-    let n = table.len() / requests::ROW_WORDS;
-    let mut need = 0;
-    let mut row = Row(0);
-    while row.0 < n {
-        need = larger(need, end_of(grid, table, offsets, row));
-        row = Row(row.0 + 1);
-    }
-    need
 }
 
 // The check 10: both scans end at once, at the first pair of rows that collide, which becomes the answer's two places.
@@ -90,7 +53,7 @@ fn judge_offsets(grid: u32, table: &[i32], space: u32, offsets: &[i32]) -> Answe
     let n = table.len() / requests::ROW_WORDS;
     let shifted = proposals::lowest_moved(table, offsets);
     let uneven = proposals::lowest_off_grid(grid, offsets, n);
-    let need = need_of(grid, table, offsets);
+    let need = proposed_need::need_of(grid, table, offsets);
     let moved = Answer::refused_at(Answer::FIXED_ROW_MOVED, shifted.0 as u32);
     let off_grid = Answer::refused_at(Answer::BAD_OFFSET, uneven.0 as u32);
     let too_much = Answer::refused_need(Answer::NEED_EXCEEDS_SPACE, need);

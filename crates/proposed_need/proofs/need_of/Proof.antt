@@ -1,10 +1,10 @@
--- `plan_inspector::need_of` meets its contract: the greatest end of the rows so far.
+-- `proposed_need::need_of` meets its contract: the greatest end of the rows so far.
 use Prim.Native.Nat.{_-_}
 use native.Mathlib.Omega.{arith}
 use Rattle.request_table.specs.Needs.{Needing, needing-start, needing-more, needing-done}
 use Rattle.inspection_rule.specs.Inspect.{proposed, proposedNeed}
-use Rattle.plan_inspector.proofs.need_of.Statement.{statement}
-use Rattle.plan_inspector.proofs.need_of.Tie as tie
+use Rattle.proposed_need.proofs.need_of.Statement.{statement}
+use Rattle.proposed_need.proofs.need_of.Tie as tie
 
 abbrev Inv-loop : tie.InvT-loop
 Inv-loop grid table offsets n need₀ row₀ need row = Needing grid table (proposed offsets) need (row .0)

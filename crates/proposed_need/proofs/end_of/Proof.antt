@@ -1,4 +1,4 @@
--- `plan_inspector::end_of` meets its contract.
+-- `proposed_need::end_of` meets its contract.
 use Prim.Native.Nat.{ℕ, _+_, _<_, _≤_}
 use mathlib.Core.Path.{_≡_, sym, _∙_, ap, ap₂, subst}
 use native.Mathlib.Omega.{arith}
@@ -11,8 +11,8 @@ use Rattle.alignment.specs.Rounding.{up-most}
 use Rattle.request_table.specs.declared.Buffer.{Buffer}
 use Rattle.request_table.specs.declared.Request.{Request}
 use Rattle.inspection_rule.specs.Inspect.{proposed}
-use Rattle.plan_inspector.proofs.end_of.Statement.{statement}
-use Rattle.plan_inspector.proofs.end_of.Tie as tie
+use Rattle.proposed_need.proofs.end_of.Statement.{statement}
+use Rattle.proposed_need.proofs.end_of.Tie as tie
 
 request-at-requires : tie.Need-request-at-requires
 request-at-requires c κs = search needs
