@@ -2,56 +2,18 @@
 // are ignored on reading and written as 1 and 1; any offset word is handed on as it stands.
 ghost use mathlib.Core.Path.{_≡_};
 ghost use lib.ListN.{length};
-ghost use Rattle.word_bytes.specs.Bytes.{wordOf};
 ghost use Rattle.word_lists.specs.WordLists.{withWords};
 ghost use Rattle.offline_rule.specs.Answers.{Writable};
-ghost use Rattle.offline_rule.specs.OfflinePlan.{countPlace, isNumber, readOf, offsetsRead, planWords, writeOf, bytesWritten};
+ghost use Rattle.offline_rule.specs.OfflinePlan.{readOf, offsetsRead, planWords, writeOf, bytesWritten};
 use answer::Answer;
+use offline_checks::OFFSETS_PLACE;
 use request_table::GREATEST_ROWS;
 use word_lists::WORD_BYTES;
 
-// Where the third word stands, n.
-const COUNT_PLACE: usize = 8;
-// Where the offsets start, behind three words.
-const OFFSETS_PLACE: usize = 12;
 // The first two words as they are written.
 const VERSION: i32 = 1;
 
 const SUBGRAPHS: i32 = 1;
-
-// Whether the plan's third word is that count. From half on the bits are a negative word, which is no count.
-fn is_for(bytes: &[u8], tensors: u32) -> bool
-    ensures { λ r. ⌜ r ≡ isNumber (wordOf (now (bytes .entry)) countPlace) tensors ⌝ }
-{
-    let bits = word_bytes::unsigned32(bytes, COUNT_PLACE);
-    (bits < 2147483648) & (bits == tensors)
-}
-
-// The answer of reading, before anything is stored. The length is worked in 64 bits, where 12 + 4n fits for every count.
-fn check(bytes: &[u8], tensors: u32, room: usize) -> Answer
-    ensures { λ r. ⌜ r ≡ readOf (now (bytes .entry)) tensors room ⌝ }
-{
-    let count = tensors as usize;
-    let other_length = bytes.len() != OFFSETS_PLACE + count * WORD_BYTES;
-    let other_count = !is_for(bytes, tensors);
-    let too_many = GREATEST_ROWS < count;
-    if bytes.len() < OFFSETS_PLACE {
-        return Answer::refused(Answer::WRONG_LENGTH);
-    }
-    if other_count {
-        return Answer::refused(Answer::OTHER_TENSOR_COUNT);
-    }
-    if other_length {
-        return Answer::refused(Answer::WRONG_LENGTH);
-    }
-    if too_many {
-        return Answer::refused(Answer::TOO_MANY);
-    }
-    if room < count {
-        return Answer::refused(Answer::TABLE_TOO_SHORT);
-    }
-    Answer::done(0)
-}
 
 // Reads a plan for so many tensors. Refused: 18, 19, 18, 2, 3, in that order, and nothing changes; done: all zeros, and the plan's offsets stand in the
 // first entries of `offsets`.
@@ -59,7 +21,7 @@ pub fn read(bytes: &[u8], tensors: u32, offsets: &mut [i32]) -> Answer
     ensures answer { λ r. ⌜ r ≡ readOf (now (bytes .entry)) tensors (length (now (offsets .entry))) ⌝ }
     ensures table { λ _. ⌜ now (offsets .exit) ≡ offsetsRead (now (bytes .entry)) tensors (now (offsets .entry)) ⌝ }
 {
-    let checked = check(bytes, tensors, offsets.len());
+    let checked = offline_checks::check(bytes, tensors, offsets.len());
     if checked.number != Answer::DONE {
         return checked;
     }

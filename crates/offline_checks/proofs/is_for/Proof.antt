@@ -1,12 +1,12 @@
--- `offline_plan::is_for` meets its contract.
+-- `offline_checks::is_for` meets its contract.
 use mathlib.Core.Bool.{Bool}
 use mathlib.Core.Path.{_∙_, ap}
 use borrow.Author.Needs.{needs}
 use Rattle.word_bytes.specs.Bytes.{signedWord, wordOf}
 use Rattle.offline_rule.specs.OfflinePlan.{isNumber}
-use Rattle.offline_plan.proofs.Counts.{by-bits}
-use Rattle.offline_plan.proofs.is_for.Statement.{statement}
-use Rattle.offline_plan.proofs.is_for.Tie as tie
+use Rattle.offline_checks.proofs.Counts.{by-bits}
+use Rattle.offline_checks.proofs.is_for.Statement.{statement}
+use Rattle.offline_checks.proofs.is_for.Tie as tie
 
 unsigned32-requires : tie.Need-unsigned32-requires
 unsigned32-requires c κs = search needs

@@ -1,4 +1,4 @@
--- `offline_plan::check` meets its contract: each cause is told where none before it holds.
+-- `offline_checks::check` meets its contract: each cause is told where none before it holds.
 use Prim.Native.Nat.{_≤_}
 use mathlib.Core.Bool.{Bool, not}
 use mathlib.Core.Path.{_≡_, sym, _∙_, ap}
@@ -9,8 +9,8 @@ use lib.ListN.{length}
 use Rattle.word_bytes.specs.Bytes.{wordOf}
 use Rattle.offline_rule.specs.Answers.{head-refused, count-refused, length-refused, limit-refused, room-refused, read-passes}
 use Rattle.offline_rule.specs.OfflinePlan.{countPlace, isNumber}
-use Rattle.offline_plan.proofs.check.Statement.{statement}
-use Rattle.offline_plan.proofs.check.Tie as tie
+use Rattle.offline_checks.proofs.check.Statement.{statement}
+use Rattle.offline_checks.proofs.check.Tie as tie
 
 mul-other-length : tie.Need-mul-other-length
 mul-other-length c = search needs
