@@ -52,9 +52,9 @@ fn is_good(table: &[i32], before: Moment, access: Access) -> bool
     ensures { λ r. ⌜ r ≡ leb (before .0) (access .moment .0) && reaches (now (table .entry)) access ⌝ }
 {
     let row = access.row;
-    let request = requests::request_at(table, row);
+    let request = request_rows::request_at(table, row);
     let rises = before.0 <= access.moment.0;
-    let listed = row.0 < table.len() / requests::ROW_WORDS;
+    let listed = row.0 < table.len() / request_table::ROW_WORDS;
     let alive = (request.first.0 <= access.moment.0) & (access.moment.0 <= request.last.0);
     let within = access.index < request.size;
     let allowed = access.reads | (access.value <= GREATEST_BYTE);
@@ -83,10 +83,11 @@ pub fn lowest_bad(table: &[i32], accesses: &[i32]) -> usize
 pub fn check_lengths(requests: &[i32], offsets: &[i32], accesses: &[i32], room: usize) -> Answer
     ensures { λ r. ⌜ r ≡ lengthsOf (now (requests .entry)) (now (offsets .entry)) (now (accesses .entry)) room ⌝ }
 {
-    let rows = requests.len() / requests::ROW_WORDS;
+    let rows = requests.len() / request_table::ROW_WORDS;
     let count = accesses.len() / ACCESS_WORDS;
-    let ragged = (requests.len() % requests::ROW_WORDS != 0) | (accesses.len() % ACCESS_WORDS != 0);
-    let too_many = (requests::GREATEST_ROWS < rows) | (GREATEST_ACCESSES < count);
+    let ragged = (requests.len() % request_table::ROW_WORDS != 0)
+        | (accesses.len() % ACCESS_WORDS != 0);
+    let too_many = (request_table::GREATEST_ROWS < rows) | (GREATEST_ACCESSES < count);
     let too_short = (offsets.len() < rows) | (room < count);
     if ragged {
         return Answer::refused(Answer::NOT_WHOLE_ROWS);

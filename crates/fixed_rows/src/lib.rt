@@ -14,8 +14,8 @@ pub enum Pair {
 fn fixed_collide(grid: u32, table: &[i32], a: Row, b: Row) -> bool
     ensures { λ r. ⌜ r ≡ fixedCollide grid (now (table .entry)) (a .0) (b .0) ⌝ }
 {
-    let first = requests::request_at(table, a);
-    let second = requests::request_at(table, b);
+    let first = request_rows::request_at(table, a);
+    let second = request_rows::request_at(table, b);
     let first_offset = first.offset;
     let second_offset = second.offset;
     let met = buffers::collide(
@@ -29,7 +29,7 @@ fn fixed_collide(grid: u32, table: &[i32], a: Row, b: Row) -> bool
 pub fn first_pair(grid: u32, table: &[i32]) -> Pair
     ensures { λ r. ⌜ r ≡ fixedPair grid (now (table .entry)) ⌝ }
 {
-    let n = table.len() / requests::ROW_WORDS;
+    let n = table.len() / request_table::ROW_WORDS;
     let mut pair = Pair::Nothing;
     let mut a = Row(0);
     'scan: while a.0 < n {

@@ -13,7 +13,7 @@ ghost use Rattle.greedy_planner.specs.Arrays.{GoodRows, SmallOffsets, st
 ghost use Rattle.greedy_planner.specs.Decided.{Decided, Fitted};
 use answer::Answer;
 use fixed_rows::Pair;
-use requests::GREATEST_ROWS;
+use request_table::GREATEST_ROWS;
 use units::Offset;
 use units::Row;
 
@@ -72,7 +72,7 @@ fn store(table: &[i32], found: [Offset; GREATEST_ROWS], offsets: &mut [i32])
     requires { ⌜ SmallOffsets (now table) found ⌝ }
     ensures { λ _. ⌜ now (offsets .exit) ≡ storedTable (now (table .entry)) found (now (offsets .entry)) ⌝ }
 {
-    let n = table.len() / requests::ROW_WORDS;
+    let n = table.len() / request_table::ROW_WORDS;
     let mut row = Row(0);
     while row.0 < n {
         let at = row.0;

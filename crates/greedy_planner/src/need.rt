@@ -7,7 +7,7 @@ ghost use Rattle.request_table.specs.Table.{rows as rowsOf};
 ghost use Rattle.greedy_rule.specs.Plan.{greedyNeed};
 ghost use Rattle.greedy_planner.specs.Arrays.{HoldsPlan};
 use request_table::Buffer;
-use requests::GREATEST_ROWS;
+use request_table::GREATEST_ROWS;
 use units::Offset;
 use units::Row;
 
@@ -32,11 +32,11 @@ pub(crate) fn need_of(grid: u32, table: &[i32], offsets: [Offset; GREATEST_ROWS]
     requires { ⌜ HoldsPlan grid (now table) offsets ⌝ }
     ensures { λ r. ⌜ r ≡ greedyNeed grid (now (table .entry)) ⌝ }
 {
-    let n = table.len() / requests::ROW_WORDS;
+    let n = table.len() / request_table::ROW_WORDS;
     let mut need = 0;
     let mut row = Row(0);
     while row.0 < n {
-        let request = requests::request_at(table, row);
+        let request = request_rows::request_at(table, row);
         let at = row.0;
         let offset = offsets[at];
         need = raised(need, buffers::buffer_at(grid, request, offset));

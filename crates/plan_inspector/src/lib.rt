@@ -16,7 +16,7 @@ fn buffer_of(grid: u32, table: &[i32], offsets: &[i32], row: Row) -> Buffer
 {
     buffers::buffer_at(
         grid,
-        requests::request_at(table, row),
+        request_rows::request_at(table, row),
         proposals::proposed_at(offsets, row),
     )
 }
@@ -27,7 +27,7 @@ fn judge_pairs(grid: u32, table: &[i32], offsets: &[i32], need: u64) -> Answer
     requires { ⌜ need ≡ proposedNeed grid (now table) (now offsets) ⌝ }
     ensures { λ r. ⌜ r ≡ pairOf grid (now (table .entry)) (now (offsets .entry)) ⌝ }
 {
-    let n = table.len() / requests::ROW_WORDS;
+    let n = table.len() / request_table::ROW_WORDS;
     let mut answer = Answer::done(need);
     let mut a = Row(0);
     'scan: while a.0 < n {
@@ -50,7 +50,7 @@ fn judge_offsets(grid: u32, table: &[i32], space: u32, offsets: &[i32]) -> Answe
     requires { ⌜ rowsOf (now table) ≤ greatestRows ⌝ }
     ensures { λ r. ⌜ r ≡ proposalOf grid (now (table .entry)) space (now (offsets .entry)) ⌝ }
 {
-    let n = table.len() / requests::ROW_WORDS;
+    let n = table.len() / request_table::ROW_WORDS;
     let shifted = proposals::lowest_moved(table, offsets);
     let uneven = proposals::lowest_off_grid(grid, offsets, n);
     let need = proposed_need::need_of(grid, table, offsets);

@@ -22,7 +22,7 @@ pub fn proposed_at(offsets: &[i32], row: Row) -> Offset
 fn is_moved(table: &[i32], offsets: &[i32], row: Row) -> bool
     ensures { λ r. ⌜ r ≡ moved (now (table .entry)) (now (offsets .entry)) (row .0) ⌝ }
 {
-    let request = requests::request_at(table, row);
+    let request = request_rows::request_at(table, row);
     let place = proposed_at(offsets, row);
     request.fixed & (place.0 != request.offset.0)
 }
@@ -31,7 +31,7 @@ fn is_moved(table: &[i32], offsets: &[i32], row: Row) -> bool
 pub fn lowest_moved(table: &[i32], offsets: &[i32]) -> Row
     ensures { λ r. ⌜ r .0 ≡ firstIn (moved (now (table .entry)) (now (offsets .entry))) 0 (rowsOf (now (table .entry))) ⌝ }
 {
-    let n = table.len() / requests::ROW_WORDS;
+    let n = table.len() / request_table::ROW_WORDS;
     let mut row = Row(0);
     while row.0 < n {
         if is_moved(table, offsets, row) {

@@ -9,7 +9,7 @@ use units::Row;
 fn end_of(grid: u32, table: &[i32], offsets: &[i32], row: Row) -> u64
     ensures { λ r. ⌜ r ≡ endOrZero (bufferAt grid (now (table .entry)) (row .0) (proposed (now (offsets .entry)) (row .0))) ⌝ }
 {
-    let request = requests::request_at(table, row);
+    let request = request_rows::request_at(table, row);
     let length = alignment::round_up(grid, request.size);
     let start = proposals::proposed_at(offsets, row);
     if 0 < length {
@@ -32,7 +32,7 @@ fn larger(a: u64, b: u64) -> u64
 pub fn need_of(grid: u32, table: &[i32], offsets: &[i32]) -> u64
     ensures { λ r. ⌜ r ≡ proposedNeed grid (now (table .entry)) (now (offsets .entry)) ⌝ }
 {
-    let n = table.len() / requests::ROW_WORDS;
+    let n = table.len() / request_table::ROW_WORDS;
     let mut need = 0;
     let mut row = Row(0);
     while row.0 < n {

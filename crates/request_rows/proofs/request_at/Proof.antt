@@ -1,11 +1,11 @@
--- `requests::request_at` meets its contract.
+-- `request_rows::request_at` meets its contract.
 use borrow.Author.Needs.{needs}
 use mathlib.Core.Path.{_∙_, ap}
 use denote.Ref.{now}
 use Rattle.words.specs.Words.{natural, isMinusOne}
-use Rattle.requests.proofs.Tests.{row-is}
-use Rattle.requests.proofs.request_at.Statement.{statement}
-use Rattle.requests.proofs.request_at.Tie as tie
+use Rattle.request_rows.proofs.Tests.{row-is}
+use Rattle.request_rows.proofs.request_at.Statement.{statement}
+use Rattle.request_rows.proofs.request_at.Tie as tie
 
 place-of-requires : tie.Need-place-of-requires
 place-of-requires c κs = search needs

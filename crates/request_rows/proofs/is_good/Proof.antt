@@ -1,8 +1,8 @@
--- `requests::is_good` meets its contract.
+-- `request_rows::is_good` meets its contract.
 use borrow.Author.Needs.{needs}
-use Rattle.requests.proofs.Tests.{good-is}
-use Rattle.requests.proofs.is_good.Statement.{statement}
-use Rattle.requests.proofs.is_good.Tie as tie
+use Rattle.request_rows.proofs.Tests.{good-is}
+use Rattle.request_rows.proofs.is_good.Statement.{statement}
+use Rattle.request_rows.proofs.is_good.Tie as tie
 
 on-grid-requires : tie.Need-on-grid-requires
 on-grid-requires c κs = search needs

@@ -1,12 +1,12 @@
--- `requests::place_of` meets its contract.
+-- `request_rows::place_of` meets its contract.
 use mathlib.Core.Path.{sym, _∙_}
 use native.Mathlib.Omega.{arith}
 use native.Mathlib.Nat.{le-refl}
 use borrow.Author.Needs.{needs}
 use lib.IntN.{pos}
 use lib.ListN.{List·getD-eq-default}
-use Rattle.requests.proofs.place_of.Statement.{statement}
-use Rattle.requests.proofs.place_of.Tie as tie
+use Rattle.request_rows.proofs.place_of.Statement.{statement}
+use Rattle.request_rows.proofs.place_of.Tie as tie
 
 mul-result : tie.Need-mul-result
 mul-result c = search needs

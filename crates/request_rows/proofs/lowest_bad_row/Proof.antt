@@ -1,12 +1,12 @@
--- `requests::lowest_bad_row` meets its contract: the scan of the rows.
+-- `request_rows::lowest_bad_row` meets its contract: the scan of the rows.
 use Prim.Native.Nat.{_-_}
 use mathlib.Core.Path.{_∙_}
 use native.Mathlib.Omega.{arith}
 use Rattle.bounded.specs.First.{Scan, scan, pass, hit, out}
 use Rattle.request_table.specs.Table.{badRow}
-use Rattle.requests.proofs.Tests.{bad-is}
-use Rattle.requests.proofs.lowest_bad_row.Statement.{statement}
-use Rattle.requests.proofs.lowest_bad_row.Tie as tie
+use Rattle.request_rows.proofs.Tests.{bad-is}
+use Rattle.request_rows.proofs.lowest_bad_row.Statement.{statement}
+use Rattle.request_rows.proofs.lowest_bad_row.Tie as tie
 
 abbrev Inv-loop : tie.InvT-loop
 Inv-loop grid table n row₀ row = Scan (badRow grid table) 0 n (row .0)
