@@ -5,9 +5,9 @@ ghost use Rattle.lifetime_rule.specs.Uses.{greatestOperators};
 ghost use Rattle.known_lifetimes.specs.OneUseMore.{readableWith, lifetimeWith};
 use lifetime_rule::Use;
 use operator_uses::GREATEST_OPERATORS;
-use operator_uses::MODEL_INPUT;
-use operator_uses::WRITES;
 use units::Moment;
+use use_rows::MODEL_INPUT;
+use use_rows::WRITES;
 
 // What the uses say of a tensor: the lowest operator that names it, one past the highest that does, and the lowest that may read it. Where there is none,
 // the number of operators stands for a lowest one, and the end is 0.

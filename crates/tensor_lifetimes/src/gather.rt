@@ -5,8 +5,8 @@ ghost use Rattle.lifetime_rule.specs.Uses.{greatestTensors};
 ghost use Rattle.tensor_lifetimes.specs.Gathered.{noLifetime, HoldsLifetimes, GoodList};
 use known_lifetimes::Lifetime;
 use operator_uses::GREATEST_TENSORS;
-use operator_uses::USE_WORDS;
 use units::Moment;
+use use_rows::USE_WORDS;
 
 // What is known of each tensor before any use.
 fn no_lifetimes(operators: u32) -> [Lifetime; GREATEST_TENSORS]
@@ -28,7 +28,7 @@ pub(crate) fn gather(operators: u32, uses: &[i32]) -> [Lifetime; GREATEST_TENSOR
     let mut gathered = no_lifetimes(operators);
     let mut k = 0;
     while k < n {
-        let usage = operator_uses::use_at(uses, k);
+        let usage = use_rows::use_at(uses, k);
         let at = usage.tensor.0;
         let lifetime = gathered[at];
         gathered[at] = known_lifetimes::lifetime_with(lifetime, usage);

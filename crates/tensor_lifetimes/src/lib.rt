@@ -15,9 +15,9 @@ use answer::Answer;
 use known_lifetimes::Lifetime;
 use operator_uses::GREATEST_TENSORS;
 use operator_uses::LIFETIME_WORDS;
-use operator_uses::READS;
-use operator_uses::USE_WORDS;
 use units::Tensor;
+use use_rows::READS;
+use use_rows::USE_WORDS;
 
 // The lowest tensor that no operator names, else the number of tensors.
 fn lowest_unnamed(operators: u32, tensors: u32, gathered: [Lifetime; GREATEST_TENSORS]) -> Tensor
@@ -45,7 +45,7 @@ fn lowest_early(uses: &[i32], gathered: [Lifetime; GREATEST_TENSORS]) -> usize
     let n = uses.len() / USE_WORDS;
     let mut k = 0;
     while k < n {
-        let usage = operator_uses::use_at(uses, k);
+        let usage = use_rows::use_at(uses, k);
         let at = usage.tensor.0;
         let lifetime = gathered[at];
         if (usage.role == READS) & (usage.operator.0 < lifetime.readable.0) {

@@ -1,12 +1,12 @@
--- `operator_uses::lowest_bad_use` meets its contract: the scan of the uses.
+-- `use_rows::lowest_bad_use` meets its contract: the scan of the uses.
 use Prim.Native.Nat.{_-_}
 use mathlib.Core.Path.{_∙_}
 use native.Mathlib.Omega.{arith}
 use Rattle.bounded.specs.First.{Scan, scan, pass, hit, out}
 use Rattle.lifetime_rule.specs.Uses.{badUse}
-use Rattle.operator_uses.proofs.Tests.{bad-is}
-use Rattle.operator_uses.proofs.lowest_bad_use.Statement.{statement}
-use Rattle.operator_uses.proofs.lowest_bad_use.Tie as tie
+use Rattle.use_rows.proofs.Tests.{bad-is}
+use Rattle.use_rows.proofs.lowest_bad_use.Statement.{statement}
+use Rattle.use_rows.proofs.lowest_bad_use.Tie as tie
 
 abbrev Inv-loop : tie.InvT-loop
 Inv-loop operators tensors uses n k₀ k = Scan (badUse operators tensors uses) 0 n k

@@ -1,9 +1,9 @@
--- `operator_uses::use_at` meets its contract.
+-- `use_rows::use_at` meets its contract.
 use denote.Ref.{now}
-use Rattle.operator_uses.proofs.Tests.{use-is, use-past}
+use Rattle.use_rows.proofs.Tests.{use-is, use-past}
 use borrow.Author.Needs.{needs}
-use Rattle.operator_uses.proofs.use_at.Statement.{statement}
-use Rattle.operator_uses.proofs.use_at.Tie as tie
+use Rattle.use_rows.proofs.use_at.Statement.{statement}
+use Rattle.use_rows.proofs.use_at.Tie as tie
 
 returns : tie.Need-returns
 returns c = use-past _ _ (c .if1 .taken)
