@@ -31,7 +31,7 @@ use Rattle.inspection_rule.specs.Inspect.{proposed, proposedNeed, inspectOf}
 use Rattle.access_rule.specs.Accesses.{greatestAccesses, count, access, good, badAccess}
 use Rattle.access_rule.specs.Answers.{Sized, done-says, touches-decide, touches-passed, touch-refused, done-bytes, refusal-keeps}
 use Rattle.access_rule.specs.GoodAccesses.{Reaches, good-says}
-use Rattle.access_rule.specs.GoodScripts.{LivingByte, GoodTouch, GoodScript, rising, script-says, script-of, lowest-bad}
+use Rattle.access_rule.specs.GoodScripts.{LivingByte, GoodAccess, GoodScript, rising, script-says, script-of, lowest-bad}
 use Rattle.access_rule.specs.Inside.{below-end, end-needed}
 use Rattle.access_rule.specs.LastWrites.{stands, untouched, read-answer}
 use Rattle.access_rule.specs.OneHolder.{Holds, one-holder}
@@ -70,7 +70,7 @@ ScriptDone g t space o s arena bytes = scriptOf g t space o s (length arena) (le
 -- The answer is 11 with the lowest touch that is not good, and arena and byte answers are as lent.
 pub record RefusedWhole (g : ℕ) (t : List ℤ) (space : ℕ) (o s : List ℤ) (arena bytes : List ℕ) : Type 0 where
   pub touch : ℕ
-  pub lowest : Lowest (λ k. GoodTouch t s k → ⊥) (count s) touch
+  pub lowest : Lowest (λ k. GoodAccess t s k → ⊥) (count s) touch
   pub answer : scriptOf g t space o s (length arena) (length bytes) ≡ refusedAt badAccessNumber touch
   pub arena-kept : finalArena g t space o s arena bytes ≡ arena
   pub bytes-kept : finalBytes g t space o s arena bytes ≡ bytes

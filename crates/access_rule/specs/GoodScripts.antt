@@ -35,7 +35,7 @@ pub record LivingByte (t s : List ℤ) (k : ℕ) : Type 0 where
   pub value-to : word s k 3 ≤ℤ pos 255
 
 -- Touch k is such a one, and no moment before it is above its own.
-pub record GoodTouch (t s : List ℤ) (k : ℕ) : Type 0 where
+pub record GoodAccess (t s : List ℤ) (k : ℕ) : Type 0 where
   pub moments : (i : ℕ) → i < k → word s i 0 ≤ℤ word s k 0
   pub living : LivingByte t s k
 
@@ -133,9 +133,9 @@ module _ (g : ℕ) (t s : List ℤ) (rows-good : (r : ℕ) → r < rows t → Go
       (eq-or-lt-of-le l)
 
   -- Where all touches before k are good by the test, touch k is good by the test exactly when it is good over signed words: one way,
-  pub touch-says : (k : ℕ) → ((i : ℕ) → i < k → good t s i ≡ true) → good t s k ≡ true → GoodTouch t s k
+  pub access-says : (k : ℕ) → ((i : ℕ) → i < k → good t s i ≡ true) → good t s k ≡ true → GoodAccess t s k
   unfolding access
-  touch-says k f e =
+  access-says k f e =
       record {
         moments = λ i l.
             subst (λ (z : ℤ). z ≤ℤ word s k 0) (sym (moment-is i (f i l)))
@@ -147,7 +147,7 @@ module _ (g : ℕ) (t s : List ℤ) (rows-good : (r : ℕ) → r < rows t → Go
       up-to j (inl q) = subst (λ (i : ℕ). good t s i ≡ true) (sym q) e
       up-to j (inr q) = f j q
 
-  not-back : (k : ℕ) → ((i : ℕ) → i < k → good t s i ≡ true) → GoodTouch t s k → momentBefore s k ≤ access s k .moment .0
+  not-back : (k : ℕ) → ((i : ℕ) → i < k → good t s i ≡ true) → GoodAccess t s k → momentBefore s k ≤ access s k .moment .0
   unfolding momentBefore access
   not-back zero f x = omega arith
   not-back (suc j) f x =
@@ -156,14 +156,14 @@ module _ (g : ℕ) (t s : List ℤ) (rows-good : (r : ℕ) → r < rows t → Go
       of-le _ _ (subst (λ (z : ℤ). z ≤ℤ pos (natural (word s (suc j) 0))) (moment-is j (f j (omega arith))) (subst (λ (z : ℤ). word s j 0 ≤ℤ z) m (x .moments j (omega arith))))
 
   -- and the other.
-  pub touch-of : (k : ℕ) → ((i : ℕ) → i < k → good t s i ≡ true) → GoodTouch t s k → good t s k ≡ true
-  touch-of k f x = good-of t s k (not-back k f x) (living-of k (x .living))
+  pub access-of : (k : ℕ) → ((i : ℕ) → i < k → good t s i ≡ true) → GoodAccess t s k → good t s k ≡ true
+  access-of k f x = good-of t s k (not-back k f x) (living-of k (x .living))
 
   -- A script all of whose touches are good by the test is good over signed words,
   pub script-says : ((k : ℕ) → k < count s → good t s k ≡ true) → GoodScript t s
   script-says f =
       record {
-        moments = λ i j l m. touch-says j (λ k q. f k (omega arith)) (f j m) .moments i l;
+        moments = λ i j l m. access-says j (λ k q. f k (omega arith)) (f j m) .moments i l;
         living = λ k l. living-says k (good-says t s k (f k l) .1);
       }
 
@@ -174,15 +174,15 @@ module _ (g : ℕ) (t s : List ℤ) (rows-good : (r : ℕ) → r < rows t → Go
       below : (k n : ℕ) → k < count s → k < n → good t s k ≡ true
       below k zero l m = absurd (omega arith)
       below k (suc n) l m =
-          touch-of k (λ i q. below i n (omega arith) (omega arith)) (record { moments = λ i q. x .moments i k q l; living = x .living k l })
+          access-of k (λ i q. below i n (omega arith) (omega arith)) (record { moments = λ i q. x .moments i k q l; living = x .living k l })
 
   -- The lowest touch that the test calls bad is the lowest that is not good over signed words.
-  pub lowest-bad : holdsBelow (badAccess t s) (count s) ≡ true → Lowest (λ k. GoodTouch t s k → ⊥) (count s) (firstIn (badAccess t s) 0 (count s))
+  pub lowest-bad : holdsBelow (badAccess t s) (count s) ≡ true → Lowest (λ k. GoodAccess t s k → ⊥) (count s) (firstIn (badAccess t s) 0 (count s))
   lowest-bad e =
       record {
         within = found (badAccess t s) (count s) e .0;
-        here = λ x. contrary (touch-of _ before x) (not-true _ (found (badAccess t s) (count s) e .1));
-        below = λ k l f. f (touch-says k (λ i m. before i (omega arith)) (before k l));
+        here = λ x. contrary (access-of _ before x) (not-true _ (found (badAccess t s) (count s) e .1));
+        below = λ k l f. f (access-says k (λ i m. before i (omega arith)) (before k l));
       }
     where
       before : (i : ℕ) → i < firstIn (badAccess t s) 0 (count s) → good t s i ≡ true

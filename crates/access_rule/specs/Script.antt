@@ -36,12 +36,12 @@ abbrev pub arenaCauses : ℕ → ℕ → List (Cause Answer)
 arenaCauses space held = (ltb held space ⇒ A.refused A.arenaTooShort) ∷ []
 
 -- 11: the lowest bad touch.
-abbrev pub touchCauses : List ℤ → List ℤ → List (Cause Answer)
-touchCauses t s = (holdsBelow (badAccess t s) (count s) ⇒ A.refusedAt A.badAccess (firstIn (badAccess t s) 0 (count s))) ∷ []
+abbrev pub accessCauses : List ℤ → List ℤ → List (Cause Answer)
+accessCauses t s = (holdsBelow (badAccess t s) (count s) ⇒ A.refusedAt A.badAccess (firstIn (badAccess t s) 0 (count s))) ∷ []
 
 -- 12, 11.
 abbrev pub lastCauses : List ℤ → ℕ → List ℤ → ℕ → List (Cause Answer)
-lastCauses t space s held = arenaCauses space held ++ touchCauses t s
+lastCauses t space s held = arenaCauses space held ++ accessCauses t s
 
 -- 1, 2, 3; 4, 5, 8, 9, 7, 10; 12; 11.
 abbrev pub scriptCauses : ℕ → List ℤ → ℕ → List ℤ → List ℤ → ℕ → ℕ → List (Cause Answer)

@@ -7,7 +7,7 @@ use lib.Dec.{leb}
 use lib.IntN.{ℤ}
 use Rattle.words.specs.Words.{natural, isMinusOne}
 use Rattle.request_table.specs.Limits.{greatestSpace}
-use Rattle.request_table.specs.Table.{word, request, onGrid, goodSize, goodLife, good, badRow}
+use Rattle.request_table.specs.Table.{word, request, onGrid, goodSize, goodLifetime, good, badRow}
 use Rattle.request_table.specs.declared.Request.{Request}
 
 -- A row, from its words.
@@ -19,9 +19,9 @@ row-is t r s f l m o = λ i. record { size = s i; first = record { 0 = f i }; la
 
 -- The test of a good row.
 pub good-is : (g : ℕ) (x : Request) {even : Bool} → even ≡ onGrid g (x .offset .0)
-    → goodSize x && (goodLife x && (not (x .fixed) || (even && leb (x .offset .0) greatestSpace))) ≡ good g x
+    → goodSize x && (goodLifetime x && (not (x .fixed) || (even && leb (x .offset .0) greatestSpace))) ≡ good g x
 unfolding good
-good-is g x e = ap (λ (b : Bool). goodSize x && (goodLife x && (not (x .fixed) || (b && leb (x .offset .0) greatestSpace)))) e
+good-is g x e = ap (λ (b : Bool). goodSize x && (goodLifetime x && (not (x .fixed) || (b && leb (x .offset .0) greatestSpace)))) e
 
 -- The test of a bad row, on the row that was read.
 pub bad-is : (g : ℕ) (t : List ℤ) (r : ℕ) {x : Request} {passes : Bool} → x ≡ request t r → passes ≡ good g x → badRow g t r ≡ not passes

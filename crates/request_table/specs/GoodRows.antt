@@ -14,7 +14,7 @@ use Rattle.bounded.specs.Boolean.{both, both-hold, either}
 use Rattle.words.specs.Words.{natural, isMinusOne}
 use Rattle.words.specs.WordOrders.{within, le-of, of-le, natural-of, from-zero, minus-one-of}
 use Rattle.request_table.specs.Limits.{greatestSpace, lastMoment}
-use Rattle.request_table.specs.Table.{word, request, onGrid, goodSize, goodLife, goodOffset, good}
+use Rattle.request_table.specs.Table.{word, request, onGrid, goodSize, goodLifetime, goodOffset, good}
 use Rattle.request_table.specs.declared.Request.{Request}
 
 -- A natural multiple of the grid, up to the greatest offset.
@@ -38,8 +38,8 @@ module _ (g : ℕ) (t : List ℤ) (r : ℕ) where
   unfolding good request
   good-says e =
       let x = request t r in
-      let a = both (goodSize x) (goodLife x && goodOffset g x) e in
-      let b = both (goodLife x) (goodOffset g x) (a .1) in
+      let a = both (goodSize x) (goodLifetime x && goodOffset g x) e in
+      let b = both (goodLifetime x) (goodOffset g x) (a .1) in
       let l = both (leb (x .first .0) (x .last .0)) (leb (x .last .0) lastMoment) (b .0) in
       let size = within (word t r 0) greatestSpace (omega arith) (leb-true _ _ (a .0)) in
       let last = within (word t r 2) lastMoment (omega arith) (leb-true _ _ (l .1)) in
@@ -91,7 +91,7 @@ good-size g x e = leb-true _ _ (both (goodSize x) _ e .0)
 pub good-offset : (g : ℕ) (x : Request) → good g x ≡ true → x .fixed ≡ true → x .offset .0 ≤ greatestSpace
 unfolding good
 good-offset g x e f =
-    let a = both (goodLife x) (goodOffset g x) (both (goodSize x) _ e .1) .1 in
+    let a = both (goodLifetime x) (goodOffset g x) (both (goodSize x) _ e .1) .1 in
     let b = rw f at a in
     leb-true _ _ (both (onGrid g (x .offset .0)) _ b .1)
 
@@ -99,6 +99,6 @@ good-offset g x e f =
 pub good-on-grid : (g : ℕ) (x : Request) → good g x ≡ true → x .fixed ≡ true → x .offset .0 % g ≡ 0
 unfolding good
 good-on-grid g x e f =
-    let a = both (goodLife x) (goodOffset g x) (both (goodSize x) _ e .1) .1 in
+    let a = both (goodLifetime x) (goodOffset g x) (both (goodSize x) _ e .1) .1 in
     let b = rw f at a in
     eqb-true _ _ (both (onGrid g (x .offset .0)) _ b .0)

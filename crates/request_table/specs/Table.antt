@@ -51,8 +51,8 @@ abbrev pub goodSize : Request → Bool
 goodSize x = leb (x .size) greatestSpace
 
 -- "0 ≤ first ≤ last ≤ 65,535".
-abbrev pub goodLife : Request → Bool
-goodLife x = leb (x .first .0) (x .last .0) && leb (x .last .0) lastMoment
+abbrev pub goodLifetime : Request → Bool
+goodLifetime x = leb (x .first .0) (x .last .0) && leb (x .last .0) lastMoment
 
 -- "the offset is −1 (placed by us) or a multiple of 16 from 0 to 16,777,216".
 abbrev pub goodOffset : ℕ → Request → Bool
@@ -60,7 +60,7 @@ goodOffset g x = not (x .fixed) || (onGrid g (x .offset .0) && leb (x .offset .0
 
 -- A good row is all three.
 unfoldable pub good : ℕ → Request → Bool
-good g x = goodSize x && (goodLife x && goodOffset g x)
+good g x = goodSize x && (goodLifetime x && goodOffset g x)
 
 -- A bad row is any other.
 abbrev pub badRow : ℕ → List ℤ → ℕ → Bool
