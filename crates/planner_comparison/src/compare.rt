@@ -32,23 +32,42 @@ fn inspect(requests: &[i32], space: u32, offsets: &[i32], tally: &mut [u64]) {
     tally::add_if(tally, tally::DISAGREEMENTS, !same_answer(answer, other));
 }
 
-// Counts the planners' answer, and a disagreement where the two differ in it or in the tables after it.
-fn compare_plans(answer: Answer, other: Answer, same_offsets: bool, tally: &mut [u64]) {
-    let same = same_answer(answer, other) & same_offsets;
-    tally::add_answer(tally, tally::PLANNER, answer);
-    tally::add_if(tally, tally::DISAGREEMENTS, !same);
+// What a planner answers and leaves.
+struct Planned {
+    answer: Answer,
+    offsets: [i32; changes::OFFSETS],
 }
 
-// The inspector's answers to so many changes of the offsets, of which so many are lent.
+fn first_plan(requests: &[i32], space: u32, room: u64) -> Planned {
+    let mut offsets = changes::unwritten();
+    let answer = greedy_planner::plan(requests, space, table::lent_front(&mut offsets, room));
+    Planned { answer, offsets }
+}
+
+fn second_plan(requests: &[i32], space: u32, room: u64) -> Planned {
+    let mut offsets = changes::unwritten();
+    let answer = second_planner::plan(requests, space, table::lent_front(&mut offsets, room));
+    Planned { answer, offsets }
+}
+
+// Whether two planners agree in their answers and in every entry of their tables.
+fn same_plan(a: Planned, b: Planned) -> bool {
+    let ours = a.offsets;
+    let theirs = b.offsets;
+    same_answer(a.answer, b.answer) & same_table(&ours, &theirs)
+}
+
+// The inspector's answers to the changes of what a planner left, with so many entries lent.
 fn inspect_changes(
     number: u32,
     requests: &[i32],
     space: u32,
-    offsets: [i32; changes::OFFSETS],
+    planned: Planned,
     room: u64,
-    count: u32,
     tally: &mut [u64],
 ) {
+    let offsets = planned.offsets;
+    let count = changes::count(planned.answer);
     let rows = numbers::narrow(rows::count(requests));
     let mut change = 0;
     while change < count {
@@ -67,19 +86,10 @@ pub(crate) fn plan(
     room: u64,
     tally: &mut [u64],
 ) -> Answer {
-    let mut offsets = changes::unwritten();
-    let mut others = changes::unwritten();
-    let answer = greedy_planner::plan(requests, space, table::lent_front(&mut offsets, room));
-    let other = second_planner::plan(requests, space, table::lent_front(&mut others, room));
-    compare_plans(answer, other, same_table(&offsets, &others), tally);
-    inspect_changes(
-        number,
-        requests,
-        space,
-        offsets,
-        room,
-        changes::count(answer),
-        tally,
-    );
-    answer
+    let planned = first_plan(requests, space, room);
+    let same = same_plan(planned, second_plan(requests, space, room));
+    tally::add_answer(tally, tally::PLANNER, planned.answer);
+    tally::add_if(tally, tally::DISAGREEMENTS, !same);
+    inspect_changes(number, requests, space, planned, room, tally);
+    planned.answer
 }

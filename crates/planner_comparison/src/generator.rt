@@ -40,20 +40,28 @@ const GREAT_SPACE: u32 = 3;
 
 const BAD_ROWS: u32 = 4;
 
+// Long tables: as many rows as are allowed, or half of them, which costs less.
+const LONG: [u32; 6] = [256, 128, 128, 128, 128, 128];
+
+const SPACES: [u32; 4] = [512, 2048, 16384, 16777216];
+
+// Spaces that are too large.
+const GREAT_SPACES: [u32; 4] = [4294967295, 16777217, 16777217, 16777217];
+
+// Sizes at the ends of the range, or of a step.
+const EXTREMES: [u32; 6] = [16777216, 16777215, 16777201, 16777200, 1, 0];
+
+// The ways in which a row is made bad: which of its words is changed, and to what.
+const BAD_COLUMNS: [u64; 9] = [0, 0, 1, 2, 2, 3, 3, 3, 3];
+
+const BAD_WORDS: [i32; 9] = [-1, 16777217, -1, 65536, -1, -2, 8, 16777232, -2147483648];
+
 // Whether the table has the fault. Half of the tables have none, three in eight have one, and in the others each stands with an even chance.
 fn has(number: u32, fault: u32) -> bool {
     match number / 320 % 8 {
         0 | 1 | 2 | 3 => false,
         7 => draw::below(2, number, FAULT + fault % 8) == 0,
         _ => draw::below(5, number, FAULT) == fault,
-    }
-}
-
-// As many rows as are allowed, or half of them, which costs less.
-fn longest(choice: u32) -> u32 {
-    match choice {
-        0 => 256,
-        _ => 128,
     }
 }
 
@@ -66,7 +74,7 @@ fn rows(number: u32) -> u32 {
         0 => draw::below(6, number, ROWS),
         1 => 4 + draw::below(20, number, ROWS),
         2 => 20 + draw::below(60, number, ROWS),
-        _ => longest(draw::below(6, number, ROWS)),
+        _ => LONG[draw::below(6, number, ROWS) as usize % 6],
     }
 }
 
@@ -89,31 +97,11 @@ pub(crate) fn room(number: u32) -> u64 {
 }
 
 pub(crate) fn space(number: u32) -> u32 {
-    let choice = draw::below(4, number, SPACE);
+    let choice = draw::below(4, number, SPACE) as usize % 4;
     if has(number, GREAT_SPACE) {
-        return match choice {
-            0 => 4294967295,
-            _ => 16777217,
-        };
+        return GREAT_SPACES[choice];
     }
-    match choice {
-        0 => 512,
-        1 => 2048,
-        2 => 16384,
-        _ => 16777216,
-    }
-}
-
-// A size at the ends of the range, or of a step.
-fn extreme(choice: u32) -> u32 {
-    match choice {
-        0 => 16777216,
-        1 => 16777215,
-        2 => 16777201,
-        3 => 16777200,
-        4 => 1,
-        _ => 0,
-    }
+    SPACES[choice]
 }
 
 // Any; all of two steps, so that they are equal in what they take; all equal; at the ends; every other one empty.
@@ -123,7 +111,7 @@ fn size(number: u32, row: u32) -> u32 {
         0 => draw::below(400, number, purpose),
         1 => 17 + draw::below(16, number, purpose),
         2 => 1 + draw::below(300, number, EQUAL_SIZE),
-        3 => extreme(draw::below(6, number, purpose)),
+        3 => EXTREMES[draw::below(6, number, purpose) as usize % 6],
         _ => draw::below(row % 2 * 100, number, purpose),
     }
 }
@@ -171,57 +159,31 @@ fn offset(number: u32, row: u32) -> i32 {
     }
 }
 
-fn put_row(number: u32, row: u32, requests: &mut [i32]) {
-    let start = row as u64 * 4;
+// A word of the table, by its place.
+fn word(number: u32, at: u32) -> i32 {
+    let row = at / 4;
     let first = first(number, row);
-    let last = numbers::sum(first, length_of_life(number, row));
-    table::put_word(requests, start, numbers::signed(size(number, row) as u64));
-    table::put_word(requests, start + 1, numbers::signed(first));
-    table::put_word(requests, start + 2, numbers::signed(last));
-    table::put_word(requests, start + 3, offset(number, row));
-}
-
-fn put_rows(number: u32, requests: &mut [i32]) {
-    let rows = rows(number);
-    let mut row = 0;
-    while row < rows {
-        put_row(number, row, requests);
-        row += 1;
+    match at % 4 {
+        0 => numbers::signed(size(number, row) as u64),
+        1 => numbers::signed(first),
+        2 => numbers::signed(numbers::sum(first, length_of_life(number, row))),
+        _ => offset(number, row),
     }
 }
 
-// The ways in which a row is made bad: which of its words is changed,
-fn bad_column(way: u32) -> u64 {
-    match way {
-        0 | 1 => 0,
-        2 => 1,
-        3 | 4 => 2,
-        _ => 3,
-    }
-}
-
-// and to what.
-fn bad_word(way: u32) -> i32 {
-    match way {
-        1 => 16777217,
-        3 => 65536,
-        5 => -2,
-        6 => 8,
-        7 => 16777232,
-        8 => -2147483648,
-        _ => -1,
+fn put_words(number: u32, count: u32, requests: &mut [i32]) {
+    let mut at = 0;
+    while at < count {
+        table::put_word(requests, at as u64, word(number, at));
+        at += 1;
     }
 }
 
 // Makes a row bad.
 fn spoil(number: u32, purpose: u32, requests: &mut [i32]) {
     let start = draw::below(rows(number), number, purpose) as u64 * 4;
-    let way = draw::below(9, number, purpose);
-    table::put_word(
-        requests,
-        numbers::sum(start, bad_column(way)),
-        bad_word(way),
-    );
+    let way = draw::below(9, number, purpose) as usize % 9;
+    table::put_word(requests, start + BAD_COLUMNS[way] % 4, BAD_WORDS[way]);
 }
 
 // Words that are not written yet. An array is made in a function of its own: where it is made, every later fact would carry its entries.
@@ -233,7 +195,7 @@ pub(crate) fn no_words() -> [i32; GREATEST_WORDS]
 
 // Writes the table's rows, of which up to two are bad where it is to have bad ones.
 pub(crate) fn fill(number: u32, requests: &mut [i32]) {
-    put_rows(number, requests);
+    put_words(number, numbers::narrow(rows(number) as u64 * 4), requests);
     if has(number, BAD_ROWS) {
         spoil(number, BAD_ROW, requests);
         spoil(number, OTHER_BAD_ROW, requests);

@@ -22,16 +22,23 @@ fn run_tight(number: u32, requests: &[i32], need: u32, tally: &mut [u64]) {
 }
 
 // Plans a table in its own space and, where that is done, tightly.
-fn run(number: u32, tally: &mut [u64]) {
-    let mut words = generator::no_words();
-    generator::fill(number, &mut words);
-    let requests = table::front(&words, generator::words(number));
+fn run_requests(number: u32, requests: &[i32], tally: &mut [u64]) {
     tally::add_table(tally, requests);
     let space = generator::space(number);
     let answer = compare::plan(number, requests, space, generator::room(number), tally);
     if answer.number == 0 {
         run_tight(number, requests, numbers::narrow(answer.need), tally);
     }
+}
+
+fn run(number: u32, tally: &mut [u64]) {
+    let mut words = generator::no_words();
+    generator::fill(number, &mut words);
+    run_requests(
+        number,
+        table::front(&words, generator::words(number)),
+        tally,
+    );
 }
 
 fn run_all(tally: &mut [u64]) {

@@ -59,14 +59,10 @@ fn print_answers(name: &[u8], tally: &[u64], from: u64, count: u64) {
     }
 }
 
-fn print_named(name: &[u8], tally: &[u64], at: u64) {
-    print_count(name, table::entry(tally, at));
-}
-
 pub(crate) fn print(tally: &[u64]) {
-    print_named(b"tables", tally, TABLES);
-    print_named(b"tables of 256 rows", tally, LONGEST);
+    print_count(b"tables", table::entry(tally, TABLES));
+    print_count(b"tables of 256 rows", table::entry(tally, LONGEST));
     print_answers(b"planner", tally, PLANNER, 8);
     print_answers(b"inspector", tally, INSPECTOR, 11);
-    print_named(b"disagreements", tally, DISAGREEMENTS);
+    print_count(b"disagreements", table::entry(tally, DISAGREEMENTS));
 }

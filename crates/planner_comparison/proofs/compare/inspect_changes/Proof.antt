@@ -7,13 +7,16 @@ use Rattle.planner_comparison.proofs.compare.inspect_changes.Statement.
 use Rattle.planner_comparison.proofs.compare.inspect_changes.Tie as tie
 
 abbrev Inv-loop : tie.InvT-loop
-Inv-loop number requests space offsets room count tally₀ rows change₀ tally change = length tally ≡ length tally₀
+Inv-loop number requests space room tally₀ offsets count rows change₀ tally change = length tally ≡ length tally₀
 
 abbrev μ-loop : tie.MeasureT-loop
-μ-loop number requests space offsets room count tally₀ rows change₀ tally change = count - change
+μ-loop number requests space room tally₀ offsets count rows change₀ tally change = count - change
 
 count-requires : tie.Need-count-requires Inv-loop μ-loop
 count-requires c κs = tt
+
+count-requires-2 : tie.Need-count-requires-2 Inv-loop μ-loop
+count-requires-2 c κs = tt
 
 narrow-requires : tie.Need-narrow-requires Inv-loop μ-loop
 narrow-requires c κs = tt
@@ -55,6 +58,7 @@ inspect-changes-spec =
     Inv-loop
     μ-loop
     count-requires
+    count-requires-2
     narrow-requires
     loop-holds
     apply-requires
