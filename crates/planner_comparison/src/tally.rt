@@ -39,7 +39,7 @@ pub(crate) fn add_table(tally: &mut [u64], requests: &[i32]) {
     add_if(tally, LONGEST, requests.len() == 1024);
 }
 
-// A line: what was counted, the number of the answer, if one is meant, and the count.
+// A line: a name and a count.
 fn print_count(name: &[u8], count: u64) {
     io::write_all(STDOUT_FILENO, name);
     io::write_all(STDOUT_FILENO, b" ");
