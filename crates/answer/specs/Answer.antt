@@ -93,6 +93,10 @@ tensorNeverNamed = 20
 abbrev pub readBeforeWritten : ℕ
 readBeforeWritten = 21
 
+-- 24: type code refused (document 02, order 1).
+abbrev pub badTypeCode : ℕ
+badTypeCode = 24
+
 -- ---- the answers
 
 -- Done, with the need of the plan.

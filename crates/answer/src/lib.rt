@@ -54,6 +54,8 @@ impl Answer {
 
     pub const READ_BEFORE_WRITTEN: u32 = 21;
 
+    pub const BAD_TYPE_CODE: u32 = 24;
+
     // Done, with the need of the plan.
     pub fn done(need: u64) -> Answer
         ensures { λ r. ⌜ r ≡ doneWith need ⌝ }

@@ -5,14 +5,13 @@ ghost use mathlib.Core.Path.{_≡_};
 ghost use Rattle.bounded.specs.First.{firstIn};
 ghost use Rattle.words.specs.Words.{wordAt};
 ghost use Rattle.request_table.specs.Table.{rows as rowsOf, word as wordOf, request, good, badRow};
+use request_table::GREATEST_SPACE;
 use request_table::ROW_WORDS;
 use request_table::Request;
 use units::Moment;
 use units::Offset;
 use units::Row;
 
-// The greatest size, fixed offset and space.
-pub const GREATEST_SPACE: u32 = 16777216;
 // The last moment that a row may name.
 pub const LAST_MOMENT: u32 = 65535;
 

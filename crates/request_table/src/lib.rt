@@ -7,6 +7,8 @@ use units::Offset;
 pub const ROW_WORDS: usize = 4;
 // At most this many rows.
 pub const GREATEST_ROWS: usize = 256;
+// The greatest size, fixed offset and space.
+pub const GREATEST_SPACE: u32 = 16777216;
 
 // One row of the table. The offset of a row that is not fixed says nothing.
 pub struct Request {

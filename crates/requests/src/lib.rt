@@ -6,8 +6,8 @@ ghost use Rattle.request_table.specs.Limits.{greatestRows};
 ghost use Rattle.request_table.specs.Table.{rows as rowsOf};
 ghost use Rattle.request_table.specs.Checks.{shapeOf, contentOf, checkOf};
 use answer::Answer;
-use request_rows::GREATEST_SPACE;
 use request_table::GREATEST_ROWS;
+use request_table::GREATEST_SPACE;
 use request_table::ROW_WORDS;
 
 // The grid: rounding, fixed offsets and proposed offsets go by it.

@@ -1,0 +1,3 @@
+pub mod ByteSize
+pub mod Elements
+pub mod SizeLaws
