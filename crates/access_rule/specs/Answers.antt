@@ -10,8 +10,9 @@ use lib.Dec.{ltb}
 use lib.IntN.{ℤ}
 use lib.ListN.{length}
 use Rattle.answer.specs.Answer.{numberOf, refused, refusedAt, doneWith, arenaTooShort, badAccess as badAccessNumber}
+use Rattle.answer.specs.declared.Answer.{Answer}
 use Rattle.bounded.specs.Boolean.{neither, neither-holds}
-use Rattle.bounded.specs.Causes.{NoneHolds, AllRefuse, firstCause, follows, follows-more, passed, refused-stands}
+use Rattle.bounded.specs.Causes.{NoneHolds, AllRefuse, Gives, firstCause, follows, follows-more, passed, refused-stands}
 use Rattle.bounded.specs.First.{firstIn, holdsBelow, none-holds}
 use Rattle.bounded.specs.Replaced.{replaced}
 use Rattle.request_table.specs.Checks.{shapeCauses}
@@ -88,6 +89,11 @@ module _ (t o s : List ℤ) (room : ℕ) where
   -- the inspector's own checks 1 to 3 pass then
   shape-none : Sized t o s room → NoneHolds (shapeCauses t (length o))
   shape-none z = (ap not (eq-eqb _ _ (z .whole)), (le-ltb _ _ (z .few), (le-ltb _ _ (z .proposed-all), tt)))
+
+  -- What the checks 1 to 3 give, as the code goes through them, is their answer.
+  pub lengths-given : {x : Answer} → Gives (lengthCauses t o s room) (doneWith 0) x → x ≡ lengthsOf t o s room
+  unfolding lengthsOf
+  lengths-given g = g .gives
 
   -- They pass: the lengths are as they must be.
   pub lengths-passed : lengthsOf t o s room .number ≡ 0 → Sized t o s room

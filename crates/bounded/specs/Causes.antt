@@ -34,6 +34,23 @@ AllGive So (c ∷ cs) = So (c .gives) × AllGive So cs
 abbrev pub AllRefuse : {A : Type 0} → (A → ℕ) → List (Cause A) → Type 0
 AllRefuse number cs = AllGive (λ a. number a ≡ 0 → ⊥) cs
 
+-- A list gives an answer, as the code comes to it: one test after the other.
+pub record Gives {A : Type 0} (cs : List (Cause A)) (d x : A) : Type 0 where
+  pub gives : x ≡ firstCause cs d
+
+module _ {A : Type 0} {cs : List (Cause A)} {d : A} {b : Bool} {x : A} where
+  -- The first cause holds: its answer is given.
+  pub given : b ≡ true → Gives ((b ⇒ x) ∷ cs) d x
+  given e = record { gives = rw (e, firstCause) }
+
+  -- It does not: the rest of the list decides.
+  pub next : {y : A} → b ≡ false → Gives cs d y → Gives ((b ⇒ x) ∷ cs) d y
+  next e g = record { gives = rw (e, firstCause) (g .gives) }
+
+-- No cause is left.
+pub none-left : {A : Type 0} {d : A} → Gives [] d d
+none-left = record { gives = refl }
+
 module _ {A : Type 0} where
   -- No cause holds: what follows is the answer.
   pub follows : (cs : List (Cause A)) (d : A) → NoneHolds cs → firstCause cs d ≡ d

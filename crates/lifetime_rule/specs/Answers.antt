@@ -10,8 +10,9 @@ use lib.Dec.{ltb, eqb}
 use lib.IntN.{ℤ}
 use lib.ListN.{length}
 use Rattle.answer.specs.Answer.{numberOf, refused, refusedAt, doneWith, notWholeRows, tooMany, tableTooShort, badRow, tensorNeverNamed, readBeforeWritten}
+use Rattle.answer.specs.declared.Answer.{Answer}
 use Rattle.bounded.specs.Boolean.{neither, neither-holds}
-use Rattle.bounded.specs.Causes.{NoneHolds, AllRefuse, firstCause, follows-more, passed, refused-stands}
+use Rattle.bounded.specs.Causes.{Gives, NoneHolds, AllRefuse, firstCause, follows-more, passed, refused-stands}
 use Rattle.bounded.specs.First.{firstIn, holdsBelow, none-holds, none-found}
 use Rattle.bounded.specs.Replaced.{replaced}
 use Rattle.lifetime_rule.specs.GoodUses.{Natural, good-natural}
@@ -56,26 +57,10 @@ module _ (operators tensors : ℕ) (u : List ℤ) where
 -- ---- the checks 1, 2 and 3, as the code goes through them
 
 module _ (operators tensors : ℕ) (u : List ℤ) (room : ℕ) where
-  -- The length first,
-  pub length-refused : not (wholeUses u) ≡ true → refused notWholeRows ≡ sizesOf operators tensors u room
+  -- What is given is their answer.
+  pub sizes-given : {x : Answer} → Gives (sizeCauses operators tensors u room) (doneWith 0) x → x ≡ sizesOf operators tensors u room
   unfolding sizesOf
-  length-refused e = rw (e, firstCause)
-
-  -- then the limits,
-  pub limits-refused : not (wholeUses u) ≡ false → outOfLimits operators tensors u ≡ true → refused tooMany ≡ sizesOf operators tensors u room
-  unfolding sizesOf
-  limits-refused e f = rw (e, firstCause, f, firstCause)
-
-  -- then the room,
-  pub room-refused : not (wholeUses u) ≡ false → outOfLimits operators tensors u ≡ false → ltb room (tensors * 2) ≡ true
-      → refused tableTooShort ≡ sizesOf operators tensors u room
-  unfolding sizesOf
-  room-refused e f g = rw (e, firstCause, f, firstCause, g, firstCause)
-
-  -- and where none is wrong, the three pass.
-  pub sizes-pass : not (wholeUses u) ≡ false → outOfLimits operators tensors u ≡ false → ltb room (tensors * 2) ≡ false → doneWith 0 ≡ sizesOf operators tensors u room
-  unfolding sizesOf
-  sizes-pass e f g = rw (e, firstCause, f, firstCause, g, firstCause)
+  sizes-given g = g .gives
 
 -- ---- the checks 20 and 21, as the code goes through them
 

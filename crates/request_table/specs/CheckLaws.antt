@@ -8,7 +8,8 @@ use borrow.Author.Tests.{ltb-false, le-ltb, lt-ltb, eqb-true, eq-eqb, not-false}
 use lib.IntN.{ℤ}
 use lib.ListN.{length}
 use Rattle.answer.specs.Answer.{numberOf, refused, refusedAt, doneWith, spaceTooLarge, badRow as badRowNumber}
-use Rattle.bounded.specs.Causes.{NoneHolds, AllRefuse, firstCause, follows-more, passed, refused-stands}
+use Rattle.answer.specs.declared.Answer.{Answer}
+use Rattle.bounded.specs.Causes.{NoneHolds, AllRefuse, Gives, firstCause, follows-more, passed, refused-stands}
 use Rattle.bounded.specs.First.{firstIn, holdsBelow, none-holds, none-found}
 use Rattle.request_table.specs.Limits.{greatestRows, greatestSpace}
 use Rattle.request_table.specs.Table.{rows, request, good, badRow}
@@ -43,6 +44,11 @@ module _ (g : ℕ) (t : List ℤ) (space : ℕ) where
   content-passed s l = rw (le-ltb _ _ s, firstCause, le-ltb _ _ l, firstCause)
 
 module _ (t : List ℤ) (room : ℕ) where
+  -- What the checks 1 to 3 give, as the code goes through them, is their answer.
+  pub shape-given : {x : Answer} → Gives (shapeCauses t room) (doneWith 0) x → x ≡ shapeOf t room
+  unfolding shapeOf
+  shape-given g = g .gives
+
   shape-refuses : AllRefuse numberOf (shapeCauses t room)
   shape-refuses = (omega arith, (omega arith, (omega arith, tt)))
 

@@ -1,59 +1,42 @@
--- The answer as the code comes to it: the dimensions and the code, a dimension below 0, then the byte size. The elements are counted up to one more than
--- the greatest size, so that no product wraps; the laws of `Capped` say that this decides the same.
+-- The answer as the code comes to it: the number of dimensions and the code, a dimension below 0, then the byte size. The code counts the elements up to
+-- one more than the greatest size, so that no product wraps; that this decides the same is said last.
 use Prim.Native.Nat.{ℕ, zero, suc, _+_, _*_, _<_, _≤_, min}
 use mathlib.Core.Bool.{Bool, true, false, _||_, or-false, or-true, or-assoc, true≢false}
-use mathlib.Core.List.{List, [], _∷_, _++_, foldr, map, prod}
-use mathlib.Core.Logic.{_⊎_, inl, inr, ⊎-elim}
-use mathlib.Core.Path.{_≡_, refl, sym, _∙_, ap, ap₂}
+use mathlib.Core.List.{List, [], _∷_, _++_, prod}
+use mathlib.Core.Logic.{⊎-elim}
+use mathlib.Core.Path.{_≡_, refl, sym, _∙_, ap}
 use native.Mathlib.Nat.{mul-assoc, mul-le-mul-left, le-of-suc-le-suc}
 use native.Mathlib.Numerals.{add-one}
 use native.Mathlib.Omega.{arith}
-use borrow.Author.Tests.{lt-ltb, le-ltb, eq-eqb, ne-eqb}
-use lib.Dec.{ltb, eqb}
+use borrow.Author.Tests.{le-ltb, ne-eqb}
 use lib.IntN.{ℤ, pos}
 use lib.ListN.{length, take}
 use lib.Seq.{take-suc}
 use lib.Signed.{ltZ}
-use Rattle.answer.specs.Answer.{refused, refusedAt, refusedNeed, doneWith, tooMany, badTypeCode, badRow, needExceedsSpace}
+use Rattle.answer.specs.Answer.{doneWith}
+use Rattle.answer.specs.declared.Answer.{Answer}
 use Rattle.bounded.specs.Boolean.{lt-or-le, either}
-use Rattle.bounded.specs.Causes.{firstCause}
-use Rattle.request_table.specs.Limits.{greatestSpace}
+use Rattle.bounded.specs.Causes.{Gives, next}
 use Rattle.words.specs.Words.{natural, wordAt}
-use Rattle.tensor_sizes.specs.ByteSize.{greatestDimensions, elementBytes, elements, hasNegative, elementsSizeOf, byteSizeOf}
+use Rattle.tensor_sizes.specs.ByteSize.{greatestDimensions, elementBytes, elements, hasNegative, dimensionCauses, sizeCauses, elementsSizeOf, byteSizeOf}
 
--- ---- the order of the checks
+-- ---- the checks, as the code goes through them
+
+-- What is given for the elements of a shape is their answer.
+pub elements-given : (shape : List ℤ) (bytes : ℕ) {x : Answer} → Gives (dimensionCauses shape bytes) (doneWith (elements shape * bytes)) x → x ≡ elementsSizeOf shape bytes
+unfolding elementsSizeOf
+elements-given shape bytes g = g .gives
 
 module _ (shape : List ℤ) (code : ℤ) where
-  -- More than eight dimensions come first,
-  pub many-refused : greatestDimensions < length shape → refused tooMany ≡ byteSizeOf shape code
+  -- What is given for a shape and a code is their answer,
+  pub size-given : {x : Answer} → Gives (sizeCauses shape code) (doneWith (elements shape * elementBytes (natural code))) x → x ≡ byteSizeOf shape code
   unfolding byteSizeOf
-  many-refused l = rw (lt-ltb _ _ l, firstCause)
+  size-given g = g .gives
 
-  -- then a code that is refused;
-  pub code-refused : length shape ≤ greatestDimensions → elementBytes (natural code) ≡ 0 → refused badTypeCode ≡ byteSizeOf shape code
-  unfolding byteSizeOf
-  code-refused l z = rw (le-ltb _ _ l, firstCause, eq-eqb _ _ z, firstCause)
-
-  -- past them, the dimensions decide.
-  pub dimensions-decide : length shape ≤ greatestDimensions → (elementBytes (natural code) ≡ 0 → ⊥) → elementsSizeOf shape (elementBytes (natural code)) ≡ byteSizeOf shape code
-  unfolding byteSizeOf elementsSizeOf
-  dimensions-decide l f = rw (le-ltb _ _ l, firstCause, ne-eqb _ _ f, firstCause)
-
-module _ (shape : List ℤ) (bytes : ℕ) where
-  -- A dimension below 0 comes first,
-  pub negative-refused : hasNegative shape ≡ true → refusedAt badRow 0 ≡ elementsSizeOf shape bytes
+  -- and past the number of dimensions and the code, that of the elements is.
+  pub elements-decide : length shape ≤ greatestDimensions → (elementBytes (natural code) ≡ 0 → ⊥) → elementsSizeOf shape (elementBytes (natural code)) ≡ byteSizeOf shape code
   unfolding elementsSizeOf
-  negative-refused e = rw (e, firstCause)
-
-  -- then a byte size above the limit;
-  pub size-refused : hasNegative shape ≡ false → greatestSpace < elements shape * bytes → refusedNeed needExceedsSpace 0 ≡ elementsSizeOf shape bytes
-  unfolding elementsSizeOf
-  size-refused e l = rw (e, firstCause, lt-ltb _ _ l, firstCause)
-
-  -- any other is done.
-  pub size-done : hasNegative shape ≡ false → elements shape * bytes ≤ greatestSpace → doneWith (elements shape * bytes) ≡ elementsSizeOf shape bytes
-  unfolding elementsSizeOf
-  size-done e l = rw (e, firstCause, le-ltb _ _ l, firstCause)
+  elements-decide l f = size-given (next (le-ltb _ _ l) (next (ne-eqb _ _ f) record { gives = refl }))
 
 -- ---- one dimension more
 

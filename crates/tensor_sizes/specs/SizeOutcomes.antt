@@ -8,7 +8,7 @@ use mathlib.Core.Logic.{_⊎_, inl, inr}
 use mathlib.Core.Path.{_≡_, refl, sym, _∙_, ap, subst}
 use native.Mathlib.Nat.{le-of-suc-le-suc, mul-zero, zero-mul}
 use native.Mathlib.Omega.{arith}
-use borrow.Author.Tests.{ltb-false}
+use borrow.Author.Tests.{lt-ltb, le-ltb, ltb-false, eq-eqb}
 use lib.Dec.{T}
 use lib.IntN.{ℤ, pos}
 use lib.ListN.{length}
@@ -16,13 +16,13 @@ use lib.Signed.{_<ℤ_, _≤ℤ_, ltZ, ltZ-yes, ltZ-no, clashℤ}
 use Rattle.answer.specs.Answer.{refused, refusedAt, refusedNeed, doneWith, tooMany, badTypeCode, badRow, needExceedsSpace}
 use Rattle.answer.specs.declared.Answer.{Answer}
 use Rattle.bounded.specs.Boolean.{lt-or-le, contrary}
-use Rattle.bounded.specs.Causes.{by-causes}
+use Rattle.bounded.specs.Causes.{given, next, none-left, by-causes}
 use Rattle.request_table.specs.Limits.{greatestSpace}
 use Rattle.words.specs.WordOrders.{within}
 use Rattle.words.specs.Words.{natural, wordAt}
 use Rattle.tensor_sizes.specs.ByteSize.{greatestDimensions, elementBytes, elements, hasNegative, sizeCauses, byteSizeOf}
 use Rattle.tensor_sizes.specs.Elements.{Element, element-bytes, element-or-none, some-bytes, small-code}
-use Rattle.tensor_sizes.specs.SizeLaws.{many-refused, code-refused, dimensions-decide, negative-refused, size-refused, size-done, negative-seen, negative-stands}
+use Rattle.tensor_sizes.specs.SizeLaws.{elements-given, size-given, elements-decide, negative-seen, negative-stands}
 
 zero-elements : (shape : List ℤ) (k : ℕ) → k < length shape → wordAt shape k ≡ pos 0 → elements shape ≡ 0
 unfolding elements prod natural
@@ -84,14 +84,14 @@ module _ (shape : List ℤ) (code : ℤ) where
     where
       go : (greatestDimensions < length shape) ⊎ (length shape ≤ greatestDimensions) → Element (natural code) (elementBytes (natural code)) ⊎ (elementBytes (natural code) ≡ 0)
           → (b : Bool) → hasNegative shape ≡ b → (greatestSpace < elements shape * elementBytes (natural code)) ⊎ (elements shape * elementBytes (natural code) ≤ greatestSpace) → SizeOutcome
-      go (inl l) x b n s = too-many l (sym (many-refused shape code l))
-      go (inr l) (inr z) b n s = no-type l (λ bytes t. some t z) (sym (code-refused shape code l z))
+      go (inl l) x b n s = too-many l (sym (size-given shape code (given (lt-ltb _ _ l))))
+      go (inr l) (inr z) b n s = no-type l (λ bytes t. some t z) (sym (size-given shape code (next (le-ltb _ _ l) (given (eq-eqb _ _ z)))))
       go (inr l) (inl e) true n s =
           let t = typed e in
           let r = negative-stands shape n in
-          negative _ (r .0) l t (r .1) (ltZ-yes (subst T (sym (r .2)) tt)) (sym (dimensions-decide shape code l (some t)) ∙ sym (negative-refused shape _ n))
-      go (inr l) (inl e) false n (inl s) = let t = typed e in too-large _ l t (none-below n) s (sym (dimensions-decide shape code l (some t)) ∙ sym (size-refused shape _ n s))
-      go (inr l) (inl e) false n (inr s) = let t = typed e in sized _ l t (none-below n) s (sym (dimensions-decide shape code l (some t)) ∙ sym (size-done shape _ n s))
+          negative _ (r .0) l t (r .1) (ltZ-yes (subst T (sym (r .2)) tt)) (sym (elements-decide shape code l (some t)) ∙ sym (elements-given shape _ (given n)))
+      go (inr l) (inl e) false n (inl s) = let t = typed e in too-large _ l t (none-below n) s (sym (elements-decide shape code l (some t)) ∙ sym (elements-given shape _ (next n (given (lt-ltb _ _ s)))))
+      go (inr l) (inl e) false n (inr s) = let t = typed e in sized _ l t (none-below n) s (sym (elements-decide shape code l (some t)) ∙ sym (elements-given shape _ (next n (next (le-ltb _ _ s) none-left))))
 
   -- No answer has a need above the limit.
   pub need-within : byteSizeOf shape code .need ≤ greatestSpace
@@ -105,4 +105,4 @@ module _ (shape : List ℤ) (code : ℤ) where
       → byteSizeOf shape code ≡ doneWith 0
   zero-dimension bytes k l t n m z =
       let none : elements shape * elementBytes (natural code) ≡ 0 = ap (λ (e : ℕ). e * elementBytes (natural code)) (zero-elements shape k m z) ∙ zero-mul _ in
-      sym (dimensions-decide shape code l (some t)) ∙ sym (size-done shape _ (none-seen n) (omega (arith, none))) ∙ ap doneWith none
+      sym (elements-decide shape code l (some t)) ∙ sym (elements-given shape _ (next (none-seen n) (next (le-ltb (elements shape * elementBytes (natural code)) greatestSpace (omega (arith, none))) none-left))) ∙ ap doneWith none

@@ -1,6 +1,7 @@
 -- `operator_uses::check_sizes` meets its contract: each way out is the first cause that holds.
 use mathlib.Core.Path.{_∙_}
-use Rattle.lifetime_rule.specs.Answers.{length-refused, limits-refused, room-refused, sizes-pass}
+use Rattle.bounded.specs.Causes.{given, next, none-left}
+use Rattle.lifetime_rule.specs.Answers.{sizes-given}
 use Rattle.lifetime_rule.specs.FromUses.{outOfLimits}
 use borrow.Author.Needs.{needs}
 use Rattle.operator_uses.proofs.check_sizes.Statement.{statement}
@@ -13,28 +14,28 @@ refused-requires : tie.Need-refused-requires
 refused-requires c κs = search needs
 
 returns : tie.Need-returns
-returns c = c .refused .ensures ∙ length-refused _ _ _ _ (c .before .if1 .taken)
+returns c = c .refused .ensures ∙ sizes-given _ _ _ _ (given (c .before .if1 .taken))
 
 refused-requires-2 : tie.Need-refused-requires-2
 refused-requires-2 c κs = search needs
 
 returns-2 : tie.Need-returns-2
 unfolding outOfLimits
-returns-2 c = let p = c .before in c .refused2 .ensures ∙ limits-refused _ _ _ _ (p .before .if1 .left) (p .if2 .taken)
+returns-2 c = let p = c .before in c .refused2 .ensures ∙ sizes-given _ _ _ _ (next (p .before .if1 .left) (given (p .if2 .taken)))
 
 refused-requires-3 : tie.Need-refused-requires-3
 refused-requires-3 c κs = search needs
 
 returns-3 : tie.Need-returns-3
 unfolding outOfLimits
-returns-3 c = let p = c .before in c .refused3 .ensures ∙ room-refused _ _ _ _ (p .before .before .if1 .left) (p .before .if2 .left) (p .if3 .taken)
+returns-3 c = let p = c .before in c .refused3 .ensures ∙ sizes-given _ _ _ _ (next (p .before .before .if1 .left) (next (p .before .if2 .left) (given (p .if3 .taken))))
 
 done-requires : tie.Need-done-requires
 done-requires c κs = search needs
 
 returns-4 : tie.Need-returns-4
 unfolding outOfLimits
-returns-4 c = let p = c .before in c .done .ensures ∙ sizes-pass _ _ _ _ (p .before .before .if1 .left) (p .before .if2 .left) (p .if3 .left)
+returns-4 c = let p = c .before in c .done .ensures ∙ sizes-given _ _ _ _ (next (p .before .before .if1 .left) (next (p .before .if2 .left) (next (p .if3 .left) none-left)))
 
 pub check-sizes-spec : {M : Type 1} → statement M
 check-sizes-spec =

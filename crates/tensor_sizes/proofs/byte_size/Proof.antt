@@ -4,10 +4,12 @@ use mathlib.Core.Logic.{inl, inr, ⊎-elim}
 use mathlib.Core.Path.{_≡_, refl, sym, _∙_, ap}
 use native.Mathlib.Omega.{arith}
 use borrow.Author.Needs.{needs}
+use borrow.Author.Tests.{lt-ltb, le-ltb, eq-eqb}
+use Rattle.bounded.specs.Causes.{given, next}
 use Rattle.words.specs.Words.{natural}
 use Rattle.tensor_sizes.specs.ByteSize.{elementsSizeOf}
 use Rattle.tensor_sizes.specs.Elements.{Element, float32, float16, int32, uint8, int64, bool, int16, complex64, int8, float64, complex128, uint64, element-bytes, element-or-none, some-bytes}
-use Rattle.tensor_sizes.specs.SizeLaws.{many-refused, code-refused, dimensions-decide}
+use Rattle.tensor_sizes.specs.SizeLaws.{size-given, elements-decide}
 use Rattle.tensor_sizes.proofs.Codes.{in-arm, in-keys}
 use Rattle.tensor_sizes.proofs.byte_size.Statement.{statement}
 use Rattle.tensor_sizes.proofs.byte_size.Tie as tie
@@ -45,13 +47,15 @@ refused-requires : tie.Need-refused-requires
 refused-requires c κs = search needs
 
 returns : tie.Need-returns
-returns c = c .refused .ensures ∙ many-refused _ _ (c .before .if1 .taken)
+returns c = c .refused .ensures ∙ size-given _ _ (given (lt-ltb _ _ (c .before .if1 .taken)))
 
 refused-requires-2 : tie.Need-refused-requires-2
 refused-requires-2 c κs = search needs
 
 returns-2 : tie.Need-returns-2
-returns-2 c = c .refused2 .ensures ∙ code-refused _ _ (c .before .before .if1 .left) (⊎-elim (λ e. absurd (other (c .before) e)) (λ z. z) (element-or-none _))
+returns-2 c =
+    let none = ⊎-elim (λ e. absurd (other (c .before) e)) (λ z. z) (element-or-none _) in
+    c .refused2 .ensures ∙ size-given _ _ (next (le-ltb _ _ (c .before .before .if1 .left)) (given (eq-eqb _ _ none)))
 
 size-of-requires : tie.Need-size-of-requires
 size-of-requires c κs = some-bytes (element c)
@@ -62,7 +66,7 @@ returns-3 c =
     let b = element-bytes e in
     c .size-of .ensures
     ∙ ap (elementsSizeOf _) (sym b)
-    ∙ dimensions-decide _ _ (c .before .before .if1 .left) (λ z. omega (arith, some-bytes e, b, z))
+    ∙ elements-decide _ _ (c .before .before .if1 .left) (λ z. omega (arith, some-bytes e, b, z))
 
 pub byte-size-spec : {M : Type 1} → statement M
 byte-size-spec =

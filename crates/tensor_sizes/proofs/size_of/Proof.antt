@@ -1,15 +1,17 @@
 -- `tensor_sizes::size_of` meets its contract: what the capped count passes or reaches, the whole count does.
 use Prim.Native.Nat.{ℕ, _+_, _*_, _≤_}
-use mathlib.Core.Bool.{true, false}
+use mathlib.Core.Bool.{false}
 use mathlib.Core.Path.{_≡_, sym, _∙_, ap}
 use native.Mathlib.Nat.{mul-le-mul}
 use native.Mathlib.Omega.{arith}
 use denote.Ref.{now}
 use borrow.Author.Needs.{needs}
+use borrow.Author.Tests.{lt-ltb, le-ltb}
 use Rattle.answer.specs.Answer.{doneWith}
+use Rattle.bounded.specs.Causes.{given, next, none-left}
 use Rattle.request_table.specs.Limits.{greatestSpace}
-use Rattle.tensor_sizes.specs.ByteSize.{hasNegative}
-use Rattle.tensor_sizes.specs.SizeLaws.{negative-refused, size-refused, size-done, capped-passes, capped-is}
+use Rattle.tensor_sizes.specs.ByteSize.{elements, hasNegative}
+use Rattle.tensor_sizes.specs.SizeLaws.{elements-given, capped-passes, capped-is}
 use Rattle.tensor_sizes.proofs.size_of.Statement.{statement}
 use Rattle.tensor_sizes.proofs.size_of.Tie as tie
 
@@ -24,7 +26,7 @@ refused-at-requires : tie.Need-refused-at-requires
 refused-at-requires c κs = search needs
 
 returns : tie.Need-returns
-returns c = c .refused-at .ensures ∙ negative-refused _ _ (sym (c .before .before .has-negative .ensures) ∙ c .before .if1 .taken)
+returns c = c .refused-at .ensures ∙ elements-given _ _ (given (sym (c .before .before .has-negative .ensures) ∙ c .before .if1 .taken))
 
 elements-requires : tie.Need-elements-requires
 elements-requires c κs = search needs
@@ -41,7 +43,8 @@ returns-2 : tie.Need-returns-2
 returns-2 c =
     let e = c .before .before in
     let s = e .before .before .before in
-    c .refused-need .ensures ∙ size-refused _ _ (natural-all (e .before)) (capped-passes greatestSpace _ _ (s .pre .0) (rw (e .elements .ensures) at (c .before .if2 .taken)))
+    let large = capped-passes greatestSpace _ _ (s .pre .0) (rw (e .elements .ensures) at (c .before .if2 .taken)) in
+    c .refused-need .ensures ∙ elements-given _ _ (next (natural-all (e .before)) (given (lt-ltb _ _ large)))
 
 done-requires : tie.Need-done-requires
 done-requires c κs = search needs
@@ -52,7 +55,8 @@ returns-3 c =
     let s = e .before .before .before in
     let within = rw (e .elements .ensures) at (c .before .if2 .left) in
     let whole = ap (λ (n : ℕ). n * s .args .bytes) (e .elements .ensures) ∙ capped-is greatestSpace _ _ (s .pre .0) within in
-    c .done .ensures ∙ ap doneWith whole ∙ size-done _ _ (natural-all (e .before)) (omega (arith, whole, c .before .if2 .left))
+    let small : elements (now (s .args .shape)) * s .args .bytes ≤ greatestSpace = omega (arith, whole, c .before .if2 .left) in
+    c .done .ensures ∙ ap doneWith whole ∙ elements-given _ _ (next (natural-all (e .before)) (next (le-ltb _ _ small) none-left))
 
 pub size-of-spec : {M : Type 1} → statement M
 size-of-spec =
