@@ -105,4 +105,4 @@ module _ (shape : List ℤ) (code : ℤ) where
       → byteSizeOf shape code ≡ doneWith 0
   zero-dimension bytes k l t n m z =
       let none : elements shape * elementBytes (natural code) ≡ 0 = ap (λ (e : ℕ). e * elementBytes (natural code)) (zero-elements shape k m z) ∙ zero-mul _ in
-      sym (elements-decide shape code l (some t)) ∙ sym (elements-given shape _ (next (none-seen n) (next (le-ltb (elements shape * elementBytes (natural code)) greatestSpace (omega (arith, none))) none-left))) ∙ ap doneWith none
+      sym (elements-decide shape code l (some t)) ∙ sym (elements-given shape _ (next (none-seen n) (next (le-ltb greatestSpace (elements shape * elementBytes (natural code)) (omega (arith, none))) none-left))) ∙ ap doneWith none
