@@ -19,7 +19,8 @@ use Rattle.bounded.specs.Count.{one, count}
 use Rattle.bounded.specs.First.{firstFrom, firstIn, holdsBelow}
 use Rattle.bounded.specs.Greatest.{greatest}
 use Rattle.bounded.specs.Last.{lastIn}
-use Rattle.bounded.specs.InOrder.{listFrom, rank, atRank, inOrder}
+use Rattle.bounded.specs.InOrder.{rank, atRank, inOrder}
+use Rattle.bounded.specs.Listed.{listFrom}
 use Rattle.bounded.specs.Pair.{partner, hasPartner, pairBelow, pairFirst, pairSecond}
 use Rattle.bounded.specs.Replaced.{replaced}
 use Rattle.bounded.specs.TwoEach.{twoEach}

@@ -7,6 +7,7 @@ pub mod Greatest
 pub mod Replaced
 pub mod TwoEach
 pub mod Causes
+pub mod Listed
 pub mod Count
 pub mod InOrder
 pub mod Entries

@@ -7,7 +7,8 @@ use Rattle.alignment.specs.Rounding.{roundedUp}
 use Rattle.bounded.specs.Count.{one, count}
 use Rattle.bounded.specs.First.{firstFrom, firstIn, holdsBelow}
 use Rattle.bounded.specs.Greatest.{greatest}
-use Rattle.bounded.specs.InOrder.{listFrom, rank, atRank, inOrder}
+use Rattle.bounded.specs.InOrder.{rank, atRank, inOrder}
+use Rattle.bounded.specs.Listed.{listFrom}
 use Rattle.bounded.specs.Pair.{partner, hasPartner, pairBelow, pairFirst, pairSecond}
 use Rattle.greedy_rule.specs.Greedy.{largerFirst, fixedRows, greedyOrder, greedyPlan}
 use Rattle.greedy_rule.specs.Plan.{fixedCollide, greedyNeed, planOf}

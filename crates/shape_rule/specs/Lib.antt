@@ -1,0 +1,3 @@
+pub mod ShapeTable
+pub mod Sized
+pub mod ShapeAnswers
