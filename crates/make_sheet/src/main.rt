@@ -1,16 +1,18 @@
-// Makes a request sheet of a text. A line of it is `space N` or a row, `size first last offset`, and `#` starts a comment. The sheet goes to standard
-// output; for a text that is none, one line goes there that tells what is wrong and where. What the numbers mean is left to the planner.
+// Makes a request sheet of a text. A line of it is `space N` or a row, and `#` starts a comment. The rows are all `size first last offset`, which gives a
+// sheet of version 1, or all `shape code first last offset dimension ..`, with up to eight dimensions, which gives one of version 2. The sheet goes to
+// standard output; for a text that is none, one line goes there that tells what is wrong and where. What the numbers mean is left to the planner.
 use libc::STDIN_FILENO;
 use refusal::Reason;
 use sheet::Progress;
 use sheet::Step;
 
 mod refusal;
+mod rows;
 mod sheet;
 mod text;
 
 // Ends a text after its last line: writes the sheet, or tells what is missing.
-fn finish(progress: Progress, rows: [u8; sheet::GREATEST_BYTES], line: usize, whole: bool) {
+fn finish(progress: Progress, rows: [u8; rows::GREATEST_BYTES], line: usize, whole: bool) {
     if !whole {
         refusal::tell(line, Reason::TooLong);
         return;
@@ -25,7 +27,7 @@ fn finish(progress: Progress, rows: [u8; sheet::GREATEST_BYTES], line: usize, wh
 // Writes the text's sheet, or the first refusal. Even the empty text has a line, so that there is one to name. Of a text that is not whole the last line
 // is not read: it may be cut, and might pass for another.
 fn make(text: &[u8], whole: bool) {
-    let mut rows = [0u8; sheet::GREATEST_BYTES];
+    let mut rows = [0u8; rows::GREATEST_BYTES];
     let mut progress = sheet::start();
     let mut line = 1;
     let mut start = 0;

@@ -3,8 +3,10 @@ use libc::STDOUT_FILENO;
 
 pub enum Reason {
     NotRow,
+    NotShape,
     NotSpace,
     SecondSpace,
+    BothForms,
     TooManyRows,
     NoSpace,
     TooLong,
@@ -17,8 +19,10 @@ fn print(text: &[u8]) {
 fn print_reason(reason: Reason) {
     match reason {
         Reason::NotRow => print(b"not four numbers of 32 bits"),
+        Reason::NotShape => print(b"shape is not four to twelve numbers of 32 bits"),
         Reason::NotSpace => print(b"space is not one number of 32 bits"),
         Reason::SecondSpace => print(b"a second space"),
+        Reason::BothForms => print(b"sizes and shapes in one text"),
         Reason::TooManyRows => print(b"more rows than a sheet holds"),
         Reason::NoSpace => print(b"no space given"),
         Reason::TooLong => print(b"text too long"),

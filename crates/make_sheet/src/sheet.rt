@@ -1,22 +1,17 @@
 // A request sheet, made line by line. The rows' bytes are kept apart from what stands before them, which is known only at the end.
-ghost use Prim.Native.Nat.{_*_, _≤_};
-ghost use Rattle.request_table.specs.Limits.{greatestRows};
 use crate::refusal::Reason;
+use crate::rows;
+use crate::rows::GREATEST_BYTES;
 use crate::text;
 use libc::STDOUT_FILENO;
 use units::Row;
 
-const WORD_BYTES: usize = 4;
-
-const ROW_BYTES: usize = WORD_BYTES * request_table::ROW_WORDS;
-
-// The bytes of the most rows.
-pub const GREATEST_BYTES: usize = ROW_BYTES * request_table::GREATEST_ROWS;
-
 // What the lines so far gave, beside the rows' bytes.
 pub struct Progress {
-    // The row that the next line of numbers gives.
+    // The row that comes next.
     pub next: Row,
+    // Whether the rows so far are shapes. Before the first it is false, so that a text without rows gives version 1.
+    pub shapes: bool,
     pub space: u32,
     // Whether a line gave the space.
     pub given: bool,
@@ -31,46 +26,40 @@ pub enum Step {
 pub(crate) fn start() -> Progress {
     Progress {
         next: Row(0),
+        shapes: false,
         space: 0,
         given: false,
     }
 }
 
-// Where the row starts among the bytes of the rows, which is also where the rows before it end. None starts past the bytes.
-fn place_of(row: Row) -> usize
-    ensures { λ r. ⌜ r ≤ 16 * greatestRows ⌝ }
-{
-    if request_table::GREATEST_ROWS < row.0 {
-        return GREATEST_BYTES;
+// Why a line is no row of the form.
+fn not_row(shapes: bool) -> Reason {
+    if shapes {
+        return Reason::NotShape;
     }
-    ROW_BYTES * row.0
+    Reason::NotRow
 }
 
-// Stores the line's numbers as the row's words, and says whether the line is four numbers and no more. Of another line it may store some, which is no
-// harm, since such a text gives no sheet. Of a row past the bytes it stores nothing.
-fn put_row(rows: &mut [u8; GREATEST_BYTES], row: Row, line: &[u8]) -> bool {
-    let place = place_of(row);
-    for column in 0..request_table::ROW_WORDS {
-        let number = decimal_text::signed(text::word(line, column));
-        if !number.good {
-            return false;
-        }
-        stored_words::put_word(rows, place + WORD_BYTES * column, number.value);
-    }
-    text::word(line, request_table::ROW_WORDS).len() == 0
-}
-
-// Takes a line that is to be a row.
-fn with_row(progress: Progress, line: &[u8], rows: &mut [u8; GREATEST_BYTES]) -> Step {
+// Takes a line that is to be a row of the form.
+fn with_row(
+    progress: Progress,
+    shapes: bool,
+    line: &[u8],
+    rows: &mut [u8; GREATEST_BYTES],
+) -> Step {
     let row = progress.next;
-    if !put_row(rows, row, line) {
-        return Step::Refused(Reason::NotRow);
+    if !rows::put_row(rows, row, shapes, line) {
+        return Step::Refused(not_row(shapes));
+    }
+    if (0 < row.0) & (progress.shapes != shapes) {
+        return Step::Refused(Reason::BothForms);
     }
     if request_table::GREATEST_ROWS <= row.0 {
         return Step::Refused(Reason::TooManyRows);
     }
     Step::Taken(Progress {
         next: Row(row.0 + 1),
+        shapes,
         space: progress.space,
         given: progress.given,
     })
@@ -88,6 +77,7 @@ fn with_space(progress: Progress, line: &[u8]) -> Step {
     let next = progress.next;
     Step::Taken(Progress {
         next,
+        shapes: progress.shapes,
         space: number as u32,
         given: true,
     })
@@ -102,16 +92,24 @@ pub(crate) fn with_line(progress: Progress, line: &[u8], rows: &mut [u8; GREATES
     if check::same(first, b"space") {
         return with_space(progress, line);
     }
-    with_row(progress, line, rows)
+    with_row(progress, check::same(first, b"shape"), line, rows)
 }
 
-// What stands before the rows: the mark, the version, which is 1, the number of rows and the space. Of each number the lowest byte comes first.
-fn header(rows: usize, space: u32) -> [u8; 11] {
+// The version goes by the form of the rows.
+fn version_of(shapes: bool) -> u8 {
+    if shapes {
+        return 2;
+    }
+    1
+}
+
+// What stands before the rows: the mark, the version, the number of rows and the space. Of each number the lowest byte comes first.
+fn header(version: u8, rows: usize, space: u32) -> [u8; 11] {
     [
         b'A',
         b'R',
         b'N',
-        1,
+        version,
         0,
         (rows % 256) as u8,
         (rows / 256 % 256) as u8,
@@ -125,8 +123,8 @@ fn header(rows: usize, space: u32) -> [u8; 11] {
 // Writes the sheet. The bytes are the rows', and those past the last row are not written.
 pub(crate) fn write(progress: Progress, rows: [u8; GREATEST_BYTES]) {
     let next = progress.next;
-    let header = header(next.0, progress.space);
+    let header = header(version_of(progress.shapes), next.0, progress.space);
     io::write_all(STDOUT_FILENO, &header);
-    let end = place_of(next);
+    let end = rows::WORD_BYTES * rows::place_of(next, progress.shapes);
     io::write_all(STDOUT_FILENO, &rows[..end]);
 }

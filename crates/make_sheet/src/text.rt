@@ -79,3 +79,17 @@ pub(crate) fn word(line: &[u8], number: usize) -> &[u8] {
     let end = find_blank(line, start, true);
     &line[start..end]
 }
+
+// How many words the line has, or so many as are enough.
+pub(crate) fn count_words(line: &[u8], enough: usize) -> usize
+    ensures { λ r. ⌜ r ≤ enough ⌝ }
+{
+    let mut count = 0;
+    while count < enough {
+        if word(line, count).len() == 0 {
+            return count;
+        }
+        count += 1;
+    }
+    count
+}

@@ -5,6 +5,9 @@ use lib.Seq.{length-take-le}
 use Rattle.make_sheet.proofs.sheet.write.Statement.{statement}
 use Rattle.make_sheet.proofs.sheet.write.Tie as tie
 
+version-of-requires : tie.Need-version-of-requires
+version-of-requires c κs = search needs
+
 header-requires : tie.Need-header-requires
 header-requires c κs = search needs
 
@@ -16,6 +19,9 @@ write-all-requires c κs = search needs
 
 place-of-requires : tie.Need-place-of-requires
 place-of-requires c κs = search needs
+
+mul-end : tie.Need-mul-end
+mul-end c = search needs
 
 array-share-prefix-rows : tie.Need-array-share-prefix-rows
 array-share-prefix-rows c = search needs
@@ -33,10 +39,12 @@ pub write-spec : {M : Type 1} → statement M
 write-spec =
     tie.close
     (tie.spec
+    version-of-requires
     header-requires
     slice-aggregate-write-all
     write-all-requires
     place-of-requires
+    mul-end
     array-share-prefix-rows
     slice-aggregate-write-all-2
     write-all-requires-2
