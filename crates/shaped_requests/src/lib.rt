@@ -10,11 +10,9 @@ ghost use Rattle.shape_rule.specs.Sized.{requestWord, requestEntry, lengthsOf, 
 use answer::Answer;
 use request_table::GREATEST_ROWS;
 use request_table::ROW_WORDS;
+use shape_rule::SHAPE_WORDS;
 use tensor_sizes::GREATEST_DIMENSIONS;
 use units::Row;
-
-// A row of the table is this many words.
-pub const SHAPE_WORDS: usize = 13;
 
 // Where the number of dimensions and the first of them stand in a row.
 const COUNT_COLUMN: usize = 1;

@@ -1,28 +1,77 @@
--- A well-formed sheet in plain terms, both ways: its mark, its version and its length; and what reading gives.
-use Prim.Native.Nat.{ℕ, _+_, _*_, _<_, _≤_}
-use mathlib.Core.Bool.{Bool, true, false, _&&_}
-use mathlib.Core.List.{List, _++_}
-use mathlib.Core.Path.{_≡_, refl}
+-- A well-formed sheet in plain terms, both ways: its mark, its version and its length, in either form; and what reading gives.
+use Prim.Native.Nat.{ℕ, zero, suc, _+_, _*_, _<_, _≤_}
+use mathlib.Core.Bool.{Bool, true, false, not, _&&_}
+use mathlib.Core.List.{List, [], _∷_, _++_}
+use mathlib.Core.Path.{_≡_, refl, sym, _∙_, ap}
+use native.Mathlib.Nat.{mul-assoc, mul-le-mul, mul-le-mul-right, le-of-mul-le-mul-right}
 use native.Mathlib.Omega.{arith}
-use borrow.Author.Tests.{eqb-true, eq-eqb, leb-true, le-leb}
+use borrow.Author.Tests.{eqb-true, eqb-false, eq-eqb, ne-eqb, leb-true, le-leb, not-true}
 use lib.Dec.{leb, eqb}
 use lib.IntN.{ℤ}
 use lib.ListN.{length, getD, drop, List·getD-eq-default}
-use Rattle.bounded.specs.Boolean.{both, both-hold, contrary}
+use Rattle.bounded.specs.Boolean.{both, both-hold}
+use Rattle.bounded.specs.Causes.{_⇒_, firstCause, by-causes}
 use Rattle.request_table.specs.Limits.{greatestRows}
-use Rattle.request_table.specs.Table.{rows}
-use Rattle.word_lists.specs.WordsComeBack.{words-length}
-use Rattle.sheet_bytes.specs.Sheet.{marked, version, rowCount, sheetSpace, sheetRows, sheetBytes, wellFormed, sheetOf, requestsRead}
-use Rattle.sheet_bytes.specs.declared.Sheet.the-variants.{Requests, Bad}
+use Rattle.sheet_bytes.specs.Sheet.{marked, version, rowCount, sheetSpace, rowWords, wordCount, sheetWords, sheetBytes, wellFormed, sheetOf, wordsRead}
+use Rattle.sheet_bytes.specs.declared.Sheet.the-variants.{Requests, Shapes, Bad}
 
--- The mark ARN, version 1, 11 bytes and 16 for each row, and no more rows than a table may have.
-pub record GoodSheet (sheet : List ℕ) : Type 0 where
+-- The versions that there are, with the bytes of their rows.
+pub data Form : ℕ → ℕ → Type 0 where
+  requests : Form 1 16
+  shapes : Form 2 52
+
+-- The mark ARN, that version, 11 bytes and so many for each row, and no more rows than a table may have.
+pub record GoodSheet (sheet : List ℕ) (number bytes : ℕ) : Type 0 where
   pub first-byte : getD sheet 0 0 ≡ 65
   pub second-byte : getD sheet 1 0 ≡ 82
   pub third-byte : getD sheet 2 0 ≡ 78
-  pub version-is : version sheet ≡ 1
-  pub whole : length sheet ≡ 11 + rowCount sheet * 16
+  pub version-is : version sheet ≡ number
+  pub whole : length sheet ≡ 11 + rowCount sheet * bytes
   pub few : rowCount sheet ≤ greatestRows
+
+-- A sheet that is good in one of the forms.
+pub record Good (sheet : List ℕ) : Type 0 where
+  pub number : ℕ
+  pub bytes : ℕ
+  pub form : Form number bytes
+  pub good : GoodSheet sheet number bytes
+
+-- A row of a form is so many words.
+pub form-words : {number bytes : ℕ} → Form number bytes → rowWords number * 4 ≡ bytes
+unfolding rowWords
+form-words requests = refl
+form-words shapes = refl
+
+-- No row has more than thirteen.
+pub few-words : (number : ℕ) → rowWords number ≤ 13
+unfolding rowWords
+few-words number = by-causes (λ (n : ℕ). n ≤ 13) ((eqb number 1 ⇒ 4) ∷ (eqb number 2 ⇒ 13) ∷ []) 0 (omega arith, (omega arith, tt)) (λ n. omega arith)
+
+-- Those of the two versions, and of no other, as the code tells them apart.
+pub request-words : {number : ℕ} → number ≡ 1 → 4 ≡ rowWords number
+unfolding rowWords
+request-words e = rw e
+
+pub shape-words : {number : ℕ} → number ≡ 2 → 13 ≡ rowWords number
+unfolding rowWords
+shape-words e = rw e
+
+pub no-words : {number : ℕ} → (number ≡ 1 → ⊥) → (number ≡ 2 → ⊥) → 0 ≡ rowWords number
+unfolding rowWords
+no-words {number} f g = rw (ne-eqb number 1 f, ne-eqb number 2 g)
+
+-- Only a form's rows have any.
+form-of : (number : ℕ) → (rowWords number ≡ 0 → ⊥) → Form number (rowWords number * 4)
+unfolding rowWords
+form-of zero f = absurd (f refl)
+form-of (suc zero) f = requests
+form-of (suc (suc zero)) f = shapes
+form-of (suc (suc (suc n))) f = absurd (f (sym (no-words {number = suc (suc (suc n))} (λ z. omega arith) (λ z. omega arith))))
+
+some-words : {number bytes : ℕ} → Form number bytes → rowWords number ≡ 0 → ⊥
+unfolding rowWords
+some-words requests z = omega arith
+some-words shapes z = omega arith
 
 -- A sheet of fewer than three bytes has no mark.
 pub unmarked : (sheet : List ℕ) → length sheet < 3 → false ≡ marked sheet
@@ -35,70 +84,70 @@ unmarked sheet h = rw (List·getD-eq-default sheet 0 {n = 2} (omega arith)) (go 
 
 module _ (sheet : List ℕ) where
   -- The test says so,
-  pub well-says : wellFormed sheet ≡ true → GoodSheet sheet
+  pub well-says : wellFormed sheet ≡ true → Good sheet
   unfolding wellFormed marked
   well-says e =
-      let x = both (((eqb (getD sheet 0 0) 65 && eqb (getD sheet 1 0) 82) && eqb (getD sheet 2 0) 78) && eqb (version sheet) 1) (eqb (length sheet) (sheetBytes (rowCount sheet)) && leb (length sheet) (sheetBytes greatestRows)) e in
-      let y = both ((eqb (getD sheet 0 0) 65 && eqb (getD sheet 1 0) 82) && eqb (getD sheet 2 0) 78) (eqb (version sheet) 1) (x .0) in
+      let head = ((eqb (getD sheet 0 0) 65 && eqb (getD sheet 1 0) 82) && eqb (getD sheet 2 0) 78) && not (eqb (rowWords (version sheet)) 0) in
+      let x = both head (eqb (length sheet) (sheetBytes (version sheet) (rowCount sheet)) && leb (length sheet) (sheetBytes (version sheet) greatestRows)) e in
+      let y = both ((eqb (getD sheet 0 0) 65 && eqb (getD sheet 1 0) 82) && eqb (getD sheet 2 0) 78) (not (eqb (rowWords (version sheet)) 0)) (x .0) in
       let m = both (eqb (getD sheet 0 0) 65 && eqb (getD sheet 1 0) 82) (eqb (getD sheet 2 0) 78) (y .0) in
       let n = both (eqb (getD sheet 0 0) 65) (eqb (getD sheet 1 0) 82) (m .0) in
-      let l = both (eqb (length sheet) (sheetBytes (rowCount sheet))) (leb (length sheet) (sheetBytes greatestRows)) (x .1) in
-      let long : length sheet ≡ 11 + rowCount sheet * 16 = eqb-true _ _ (l .0) in
-      let limit : length sheet ≤ 11 + greatestRows * 16 = leb-true _ _ (l .1) in
+      let l = both (eqb (length sheet) (sheetBytes (version sheet) (rowCount sheet))) (leb (length sheet) (sheetBytes (version sheet) greatestRows)) (x .1) in
+      let long : length sheet ≡ 11 + rowCount sheet * rowWords (version sheet) * 4 = eqb-true _ _ (l .0) in
+      let limit : length sheet ≤ 11 + greatestRows * rowWords (version sheet) * 4 = leb-true _ _ (l .1) in
+      let some = eqb-false (rowWords (version sheet)) 0 (not-true _ (y .1)) in
       record {
-        first-byte = eqb-true _ _ (n .0);
-        second-byte = eqb-true _ _ (n .1);
-        third-byte = eqb-true _ _ (m .1);
-        version-is = eqb-true _ _ (y .1);
-        whole = long;
-        few = omega arith;
+        number = version sheet;
+        bytes = rowWords (version sheet) * 4;
+        form = form-of (version sheet) some;
+        good = record {
+          first-byte = eqb-true _ _ (n .0);
+          second-byte = eqb-true _ _ (n .1);
+          third-byte = eqb-true _ _ (m .1);
+          version-is = refl;
+          whole = long ∙ ap (λ (k : ℕ). 11 + k) (mul-assoc (rowCount sheet) (rowWords (version sheet)) 4);
+          few = le-of-mul-le-mul-right {k = rowWords (version sheet)} (omega (arith, long, limit)) (omega (arith, some));
+        };
       }
 
   -- and the other way.
-  pub well-of : GoodSheet sheet → wellFormed sheet ≡ true
+  pub well-of : {number bytes : ℕ} → Form number bytes → GoodSheet sheet number bytes → wellFormed sheet ≡ true
   unfolding wellFormed marked
-  well-of g =
+  well-of {number} f g =
+      let words = ap rowWords (g .version-is) in
+      let some = ap not (ne-eqb (rowWords (version sheet)) 0 (λ z. some-words f (sym words ∙ z))) in
+      let row = ap (λ (n : ℕ). n * 4) words ∙ form-words f in
+      let long = g .whole ∙ ap (λ (k : ℕ). 11 + rowCount sheet * k) (sym row) ∙ ap (λ (k : ℕ). 11 + k) (sym (mul-assoc (rowCount sheet) (rowWords (version sheet)) 4)) in
+      let limit : length sheet ≤ sheetBytes (version sheet) greatestRows = omega (arith, long, mul-le-mul-right (rowWords (version sheet)) (g .few)) in
       both-hold _ _
-      (both-hold _ _ (both-hold _ _ (both-hold _ _ (eq-eqb _ _ (g .first-byte)) (eq-eqb _ _ (g .second-byte))) (eq-eqb _ _ (g .third-byte))) (eq-eqb _ _ (g .version-is)))
-      (both-hold _ _ (eq-eqb _ _ (g .whole)) (le-leb (length sheet) (sheetBytes greatestRows) (omega (arith, g .whole, g .few))))
+      (both-hold _ _ (both-hold _ _ (both-hold _ _ (eq-eqb _ _ (g .first-byte)) (eq-eqb _ _ (g .second-byte))) (eq-eqb _ _ (g .third-byte))) some)
+      (both-hold _ _ (eq-eqb _ _ long) (le-leb (length sheet) (sheetBytes (version sheet) greatestRows) limit))
 
-  -- A good sheet is read as its rows and its space,
-  pub good-read : wellFormed sheet ≡ true → Requests (rowCount sheet * 4) (sheetSpace sheet) ≡ sheetOf sheet
+  -- A well-formed sheet has a whole head, and no more words than the longest table.
+  pub words-within : wellFormed sheet ≡ true → (11 ≤ length sheet) × (wordCount sheet ≤ greatestRows * 13)
+  words-within e = let w = well-says e in (omega (arith, w .good .whole), mul-le-mul (w .good .few) (few-words (version sheet)))
+
+  -- A good sheet of version 1 is read as its requests and its space,
+  pub requests-read : wellFormed sheet ≡ true → version sheet ≡ 1 → Requests (wordCount sheet) (sheetSpace sheet) ≡ sheetOf sheet
   unfolding sheetOf
-  good-read e = rw (e, sheetOf)
+  requests-read e v = rw (e, firstCause, eq-eqb _ _ v, firstCause)
+
+  -- of the other as its shapes and its space,
+  pub shapes-read : wellFormed sheet ≡ true → (version sheet ≡ 1 → ⊥) → Shapes (wordCount sheet) (sheetSpace sheet) ≡ sheetOf sheet
+  unfolding sheetOf
+  shapes-read e v = rw (e, firstCause, ne-eqb _ _ v, firstCause)
 
   -- any other as bad.
   pub bad-read : wellFormed sheet ≡ false → Bad ≡ sheetOf sheet
   unfolding sheetOf
-  bad-read e = rw (e, sheetOf)
+  bad-read e = rw (e, firstCause)
 
   -- The rows of a good sheet are put in front of the table,
-  pub good-rows : (table : List ℤ) → wellFormed sheet ≡ true → requestsRead sheet table ≡ sheetRows sheet ++ drop (rowCount sheet * 4) table
-  unfolding requestsRead
-  good-rows table e = rw (e, requestsRead)
+  pub good-rows : (table : List ℤ) → wellFormed sheet ≡ true → wordsRead sheet table ≡ sheetWords sheet ++ drop (wordCount sheet) table
+  unfolding wordsRead
+  good-rows table e = rw (e, wordsRead)
 
   -- a bad one changes nothing.
-  pub bad-rows : (table : List ℤ) → wellFormed sheet ≡ false → requestsRead sheet table ≡ table
-  unfolding requestsRead
-  bad-rows table e = rw (e, requestsRead)
-
-  -- As a request table the rows are as many as the sheet counts.
-  pub rows-are : rows (sheetRows sheet) ≡ rowCount sheet
-  rows-are = omega (arith, words-length sheet 11 (rowCount sheet * 4))
-
-  -- A table was read: the sheet is well formed, and these are its words and its space.
-  pub requests-say : (words space : ℕ) → sheetOf sheet ≡ Requests words space
-      → (wellFormed sheet ≡ true) × (words ≡ rowCount sheet * 4) × (space ≡ sheetSpace sheet)
-  requests-say words space e = go (wellFormed sheet) refl
-    where
-      go : (b : Bool) → wellFormed sheet ≡ b → (wellFormed sheet ≡ true) × (words ≡ rowCount sheet * 4) × (space ≡ sheetSpace sheet)
-      go true w = let r = good-read w in (w, (cc), (cc))
-      go false w = let r = bad-read w in absurd (let z : _≡_ {A = ℕ} 0 1 = cc in omega arith)
-
-  -- None was read: it is not well formed.
-  pub bad-says : sheetOf sheet ≡ Bad → wellFormed sheet ≡ false
-  bad-says e = go (wellFormed sheet) refl
-    where
-      go : (b : Bool) → wellFormed sheet ≡ b → wellFormed sheet ≡ false
-      go true w = let r = good-read w in absurd (let z : _≡_ {A = ℕ} 0 1 = cc in omega arith)
-      go false w = w
+  pub bad-rows : (table : List ℤ) → wellFormed sheet ≡ false → wordsRead sheet table ≡ table
+  unfolding wordsRead
+  bad-rows table e = rw (e, wordsRead)

@@ -1,12 +1,14 @@
--- Document 01's Sheet A in a space of 1,024, byte by byte: what is read from it, and that it is bad once its version or its length is another.
+-- Document 01's Sheet A in a space of 1,024, byte by byte: what is read from it, and that it is bad once its version or its length is another. And a
+-- sheet of version 2.
 use mathlib.Core.List.{List, [], _∷_, _++_}
 use mathlib.Core.Path.{_≡_, refl}
 use Prim.Native.Nat.{ℕ}
 use lib.IntN.{ℤ, pos, negsuc}
+use lib.ListN.{replicate}
 use Rattle.word_bytes.specs.Bytes.{littleEndian, signedWord, wordOf}
 use Rattle.word_lists.specs.WordLists.{wordsFrom}
-use Rattle.sheet_bytes.specs.Sheet.{marked, sheetRows, wellFormed, sheetOf}
-use Rattle.sheet_bytes.specs.declared.Sheet.the-variants.{Requests, Bad}
+use Rattle.sheet_bytes.specs.Sheet.{marked, rowWords, sheetWords, wellFormed, sheetOf}
+use Rattle.sheet_bytes.specs.declared.Sheet.the-variants.{Requests, Shapes, Bad}
 
 -- The mark, a version and three rows.
 abbrev pub headOf : ℕ → List ℕ
@@ -36,21 +38,42 @@ sheetA version = headOf version ++ space1024 ++ rowsOfA
 
 -- It is read as twelve words and a space of 1,024,
 pub sheet-a-read : sheetOf (sheetA 1) ≡ Requests 12 1024
-unfolding littleEndian marked wellFormed sheetOf
+unfolding littleEndian marked rowWords wellFormed sheetOf
 sheet-a-read = refl
 
 -- the words of its rows,
-pub sheet-a-rows : sheetRows (sheetA 1)
+pub sheet-a-rows : sheetWords (sheetA 1)
     ≡ pos 100 ∷ pos 0 ∷ pos 1 ∷ negsuc 0 ∷ pos 50 ∷ pos 0 ∷ pos 2 ∷ negsuc 0 ∷ pos 40 ∷ pos 2 ∷ pos 3 ∷ negsuc 0 ∷ []
-unfolding littleEndian signedWord wordOf wordsFrom
+unfolding littleEndian signedWord wordOf rowWords wordsFrom
 sheet-a-rows = refl
 
--- is bad with version 2,
+-- is bad with a version that there is not,
+pub sheet-a-of-other-versions : (sheetOf (sheetA 0) ∷ sheetOf (sheetA 3) ∷ []) ≡ (Bad ∷ Bad ∷ [])
+unfolding littleEndian marked rowWords wellFormed sheetOf
+sheet-a-of-other-versions = refl
+
+-- with version 2, whose rows are longer,
 pub sheet-a-of-version-2 : sheetOf (sheetA 2) ≡ Bad
-unfolding littleEndian marked wellFormed sheetOf
+unfolding littleEndian marked rowWords wellFormed sheetOf
 sheet-a-of-version-2 = refl
 
--- and bad with a byte more.
+-- and with a byte more.
 pub sheet-a-and-a-byte : sheetOf (sheetA 1 ++ (0 ∷ [])) ≡ Bad
-unfolding littleEndian marked wellFormed sheetOf
+unfolding littleEndian marked rowWords wellFormed sheetOf
 sheet-a-and-a-byte = refl
+
+-- One int8 of 7 by 3 as the one row of a sheet of version 2, from moment 0 to 1, placed by us. A dimension past the number stands in it too.
+abbrev pub shapedSheet : List ℕ
+shapedSheet =
+    (65 ∷ 82 ∷ 78 ∷ 2 ∷ 0 ∷ 1 ∷ 0 ∷ [])
+    ++ space1024
+    ++ (9 ∷ 0 ∷ 0 ∷ 0 ∷ 2 ∷ 0 ∷ 0 ∷ 0 ∷ 7 ∷ 0 ∷ 0 ∷ 0 ∷ 3 ∷ 0 ∷ 0 ∷ 0 ∷ [])
+    ++ unplaced
+    ++ replicate 20 0
+    ++ (0 ∷ 0 ∷ 0 ∷ 0 ∷ 1 ∷ 0 ∷ 0 ∷ 0 ∷ [])
+    ++ unplaced
+
+-- It is read as thirteen words of shapes and a space of 1,024.
+pub shaped-read : sheetOf shapedSheet ≡ Shapes 13 1024
+unfolding littleEndian marked rowWords wellFormed sheetOf
+shaped-read = refl

@@ -1,4 +1,4 @@
--- `sheet_bytes::read` meets its contract.
+-- `sheet_bytes::read` meets its contract: past the test the rows' words fit the table, and the version tells what they are.
 use Prim.Native.Nat.{ℕ, _*_}
 use mathlib.Core.Bool.{true}
 use mathlib.Core.List.{_++_}
@@ -9,15 +9,30 @@ use borrow.Author.Needs.{needs}
 use borrow.Author.Tests.{not-true, not-false}
 use lib.ListN.{drop}
 use Rattle.word_lists.specs.WordLists.{wordsFrom}
-use Rattle.sheet_bytes.specs.Sheet.{wellFormed}
-use Rattle.sheet_bytes.specs.GoodSheets.{GoodSheet, well-says, good-read, bad-read, good-rows, bad-rows}
-use Rattle.sheet_bytes.specs.declared.Sheet.the-variants.{Requests}
+use Rattle.sheet_bytes.specs.GoodSheets.{words-within, requests-read, shapes-read, bad-read, good-rows, bad-rows}
+use Rattle.sheet_bytes.specs.Sheet.{rowWords, wordCount, wellFormed, wordsRead}
+use Rattle.sheet_bytes.specs.declared.Sheet.the-variants.{Requests, Shapes}
 use Rattle.sheet_bytes.proofs.read.Statement.{statement}
 use Rattle.sheet_bytes.proofs.read.Tie as tie
 
 -- past the test the sheet is well formed
 well : (c : tie.Else1) → wellFormed (now (c .before .before .before .args .sheet)) ≡ true
 well c = sym (c .before .is-well-formed .ensures) ∙ not-false _ (c .if1 .left)
+
+-- as many words are read as its rows have
+counted : (c : tie.After-row-words) → let e = c .before .before .before in
+    c .before .unsigned162 .result * c .row-words .result ≡ wordCount (now (e .before .before .before .args .sheet))
+counted c = ap₂ (λ (m n : ℕ). m * n) (c .before .unsigned162 .ensures) (c .row-words .ensures ∙ ap rowWords (c .before .before .unsigned16 .ensures))
+
+-- and stand in front of the table
+stored : (c : tie.After-read-rows) → let a = c .before .before .before .before .before .before .before .before .before .args in c .read-rows .last .1 .1 .0 ≡ wordsRead (now (a .sheet)) (now (a .words))
+stored c =
+    let words = c .before .before .before in
+    let e = words .before .before .before in
+    let sheet = now (e .before .before .before .args .sheet) in
+    c .read-rows .ensures
+    ∙ ap (λ (n : ℕ). wordsFrom sheet 11 n ++ drop n (now (e .before .before .before .args .words))) (counted words)
+    ∙ sym (good-rows sheet _ (well e))
 
 is-well-formed-requires : tie.Need-is-well-formed-requires
 is-well-formed-requires c κs = search needs
@@ -30,29 +45,42 @@ returns c =
 unsigned16-requires : tie.Need-unsigned16-requires
 unsigned16-requires c κs = search needs
 
-cast-words : tie.Need-cast-words
-cast-words c = search needs
+unsigned16-requires-2 : tie.Need-unsigned16-requires-2
+unsigned16-requires-2 c κs = search needs
 
-mul-words : tie.Need-mul-words
-mul-words c = search needs
+cast-rows : tie.Need-cast-rows
+cast-rows c = search needs
+
+row-words-requires : tie.Need-row-words-requires
+row-words-requires c κs = search needs
+
+mul-count : tie.Need-mul-count
+mul-count c = omega (arith, counted c, words-within _ (well (c .before .before .before)) .1)
 
 unsigned32-requires : tie.Need-unsigned32-requires
 unsigned32-requires c κs = search needs
 
 read-rows-requires : tie.Need-read-rows-requires
 read-rows-requires c κs =
-    let g = well-says _ (well (c .before .before .before)) in
-    let n = c .before .before .unsigned16 .ensures in
-    (omega (arith, g .whole), omega (arith, g .few, n, c .before .before .before .before .before .before .good))
+    let w = words-within _ (well (c .before .before .before .before .before)) in
+    let n = counted (c .before .before) in
+    (w .0, omega (arith, w .1, n, c .before .before .before .before .before .before .before .before .good))
 
 returns-2 : tie.Need-returns-2
 returns-2 c =
-    let e = c .before .before .before .before in
-    let sheet = now (e .before .before .before .args .sheet) in
-    let words = ap (λ (n : ℕ). n * 4) (c .before .before .before .unsigned16 .ensures) in (
-      ap₂ Requests words (c .before .before .unsigned32 .ensures) ∙ good-read sheet (well e),
-      c .read-rows .ensures ∙ ap (λ (n : ℕ). wordsFrom sheet 11 n ++ drop n (now (e .before .before .before .args .requests))) words ∙ sym (good-rows sheet _ (well e)),
-    )
+    let r = c .before in
+    let space = r .before .before in
+    let e = space .before .before .before .before in
+    let v = sym (space .before .before .before .unsigned16 .ensures) ∙ c .if2 .taken in
+    (ap₂ Requests (counted (space .before)) (space .unsigned32 .ensures) ∙ requests-read _ (well e) v, stored r)
+
+returns-3 : tie.Need-returns-3
+returns-3 c =
+    let r = c .before in
+    let space = r .before .before in
+    let e = space .before .before .before .before in
+    let v = space .before .before .before .unsigned16 .ensures in
+    (ap₂ Shapes (counted (space .before)) (space .unsigned32 .ensures) ∙ shapes-read _ (well e) (λ z. c .if2 .left (v ∙ z)), stored r)
 
 pub read-spec : {M : Type 1} → statement M
 read-spec =
@@ -61,8 +89,11 @@ read-spec =
     is-well-formed-requires
     returns
     unsigned16-requires
-    cast-words
-    mul-words
+    unsigned16-requires-2
+    cast-rows
+    row-words-requires
+    mul-count
     unsigned32-requires
     read-rows-requires
-    returns-2)
+    returns-2
+    returns-3)

@@ -35,8 +35,8 @@ same-length c = search needs
 returns : tie.Need-returns
 returns c =
     let s = c .before .before .before .before .before in
-    ap (λ (xs : List ℤ). xs ++ drop (s .args .words) (now (s .args .requests)))
-    (c .before .read-words .ensures ∙ ap (wordsFrom _ 0) (length-take-le _ _ (s .pre .1)) ∙ words-of-part (now (s .args .sheet)) 11 (s .args .words))
+    ap (λ (xs : List ℤ). xs ++ drop (s .args .count) (now (s .args .words)))
+    (c .before .read-words .ensures ∙ ap (wordsFrom _ 0) (length-take-le _ _ (s .pre .1)) ∙ words-of-part (now (s .args .sheet)) 11 (s .args .count))
 
 pub read-rows-spec : {M : Type 1} → statement M
 read-rows-spec =
