@@ -1,24 +1,32 @@
 -- Law: what is replied to a sheet, and when, in document 01's words: no room, which is number 3, before anything else; `bad sheet` for a sheet whose mark,
--- version or length is wrong; the plan, or `refused N a b need`, as the planner answers. The text stands in front of the lent bytes.
+-- version or length is wrong; of version 2 the first bad shape with its row; else the plan, or `refused N a b need`, as the planner answers. The text
+-- stands in front of the lent bytes.
 use Prim.Native.Nat.{ℕ, _<_, _≤_}
 use mathlib.Core.Bool.{Bool, true, false}
 use mathlib.Core.List.{List, _++_}
 use mathlib.Core.Logic.{_⊎_, inl, inr}
-use mathlib.Core.Path.{_≡_, refl, sym, _∙_, ap}
+use mathlib.Core.Path.{_≡_, refl, sym, _∙_, ap, subst}
 use native.Mathlib.Omega.{arith}
+use lib.IntN.{ℤ}
 use lib.ListN.{length, drop}
-use Rattle.answer.specs.Answer.{doneWith}
+use Rattle.answer.specs.Answer.{numberOf as answerNumber, doneWith, refusedAt}
 use Rattle.answer.specs.declared.Answer.{Answer}
 use Rattle.bounded.specs.Boolean.{contrary, lt-or-le, same-or-not}
+use Rattle.bounded.specs.Lowest.{Lowest}
 use Rattle.greedy_rule.specs.Answers.{done-says, done-of}
 use Rattle.greedy_rule.specs.Greedy.{greedyPlan}
 use Rattle.greedy_rule.specs.Plan.{planOf, greedyNeed}
 use Rattle.text_rule.specs.Text.{planText, answerText, refusedText, badSheetText, greatestText}
 use Rattle.text_rule.specs.TextCases.{done-text, refused-text}
 use Rattle.request_table.specs.Limits.{grid}
-use Rattle.sheet_bytes.specs.GoodSheets.{GoodSheet, well-says, well-of, rows-are}
-use Rattle.sheet_bytes.specs.Sheet.{wellFormed, rowCount, sheetRows, sheetSpace}
-use Rattle.request_sheet.specs.Replies.{Stands, no-room, reply-stands, table-reply, bad-reply}
+use Rattle.request_table.specs.Table.{rows}
+use Rattle.shape_rule.specs.ShapeOutcomes.{ShapesOutcome, lowest-bad, all-good, shapes-outcome}
+use Rattle.shape_rule.specs.ShapeTable.{tensorSize}
+use Rattle.shape_rule.specs.Sized.{sizedTable}
+use Rattle.shape_rule.specs.SizedRows.{sized-rows}
+use Rattle.sheet_bytes.specs.GoodSheets.{Form, requests, shapes, Good, GoodSheet, well-says, well-of, rows-are, shapes-are}
+use Rattle.sheet_bytes.specs.Sheet.{wellFormed, rowCount, sheetWords, sheetSpace}
+use Rattle.request_sheet.specs.Replies.{Stands, no-room, shapes-refused, shapes-sized, reply-stands, table-reply, shapes-reply, bad-reply}
 use Rattle.request_sheet.specs.Reply.{tableText, replyText, replyOf, textAfter, numberOf}
 use Rattle.request_sheet.specs.declared.outcome.Reply.the-variants.{Text, NoRoom}
 
@@ -33,44 +41,69 @@ module _ (sheet text : List ℕ) where
     pub reply-is : replyOf sheet (length text) ≡ Text (length words)
     pub bytes-are : textAfter sheet text ≡ words ++ drop (length words) text
 
+  -- The request table that a sheet gives: its rows in version 1; in version 2, where no shape is bad, the rows that the shapes' sizes make.
+  pub data TableOf : List ℤ → Type 0 where
+    of-requests : GoodSheet sheet 1 16 → TableOf (sheetWords sheet)
+    of-shapes : GoodSheet sheet 2 52 → ((r : ℕ) → r < rowCount sheet → tensorSize (sheetWords sheet) r .number ≡ 0) → TableOf (sizedTable (sheetWords sheet))
+
   -- What may be replied.
   pub data Outcome : Type 0 where
     too-few-bytes : length text < greatestText → replyOf sheet (length text) ≡ NoRoom → textAfter sheet text ≡ text → Outcome
-    bad-sheet : greatestText ≤ length text → (GoodSheet sheet → ⊥) → Told badSheetText → Outcome
-    planned : greatestText ≤ length text → GoodSheet sheet → planOf grid (sheetRows sheet) (sheetSpace sheet) (rowCount sheet) ≡ doneWith (greedyNeed grid (sheetRows sheet))
-        → Told (planText (greedyNeed grid (sheetRows sheet)) (greedyPlan grid (sheetRows sheet)) (rowCount sheet)) → Outcome
-    refused : greatestText ≤ length text → GoodSheet sheet → (planOf grid (sheetRows sheet) (sheetSpace sheet) (rowCount sheet) .number ≡ 0 → ⊥)
-        → Told (refusedText (planOf grid (sheetRows sheet) (sheetSpace sheet) (rowCount sheet))) → Outcome
+    bad-sheet : greatestText ≤ length text → (Good sheet → ⊥) → Told badSheetText → Outcome
+    bad-shape : (a : ℕ) → greatestText ≤ length text → GoodSheet sheet 2 52 → Lowest (λ r. tensorSize (sheetWords sheet) r .number ≡ 0 → ⊥) (rowCount sheet) a
+        → Told (refusedText (refusedAt (tensorSize (sheetWords sheet) a .number) a)) → Outcome
+    planned : (t : List ℤ) → greatestText ≤ length text → TableOf t → planOf grid t (sheetSpace sheet) (rowCount sheet) ≡ doneWith (greedyNeed grid t)
+        → Told (planText (greedyNeed grid t) (greedyPlan grid t) (rowCount sheet)) → Outcome
+    refused : (t : List ℤ) → greatestText ≤ length text → TableOf t → (planOf grid t (sheetSpace sheet) (rowCount sheet) .number ≡ 0 → ⊥)
+        → Told (refusedText (planOf grid t (sheetSpace sheet) (rowCount sheet))) → Outcome
 
   told : {words : List ℕ} → greatestText ≤ length text → words ≡ replyText sheet → Told words
   told l e =
       let s = reply-stands sheet text l record { count-is = refl; bytes-are = refl } in
       record { reply-is = sym (s .0) ∙ ap (λ (xs : List ℕ). Text (length xs)) (sym e); bytes-are = sym (s .1) ∙ ap (λ (xs : List ℕ). xs ++ drop (length xs) text) (sym e) }
 
-  module _ (l : greatestText ≤ length text) (w : wellFormed sheet ≡ true) where
+  module _ (l : greatestText ≤ length text) (t : List ℤ) (rows-t : rows t ≡ rowCount sheet) (of : TableOf t) (e : tableText t (sheetSpace sheet) ≡ replyText sheet) where
     answer : Answer
-    answer = planOf grid (sheetRows sheet) (sheetSpace sheet) (rowCount sheet)
+    answer = planOf grid t (sheetSpace sheet) (rowCount sheet)
 
-    table : answerText answer (greedyPlan grid (sheetRows sheet)) (rowCount sheet) ≡ replyText sheet
+    table : answerText answer (greedyPlan grid t) (rowCount sheet) ≡ replyText sheet
     unfolding answer tableText
-    table =
-        ap (λ (n : ℕ). answerText (planOf grid (sheetRows sheet) (sheetSpace sheet) n) (greedyPlan grid (sheetRows sheet)) n) (sym (rows-are sheet))
-        ∙ table-reply sheet w
+    table = ap (λ (n : ℕ). answerText (planOf grid t (sheetSpace sheet) n) (greedyPlan grid t) n) (sym rows-t) ∙ e
 
     by-number : (answer .number ≡ 0) ⊎ (answer .number ≡ 0 → ⊥) → Outcome
     unfolding answer
     by-number (inl z) =
-        let d : answer ≡ doneWith (greedyNeed grid (sheetRows sheet)) = done-of _ _ _ _ (done-says grid (sheetRows sheet) (sheetSpace sheet) (rowCount sheet) z) in
-        let plan = sym (done-text (doneWith (greedyNeed grid (sheetRows sheet))) (greedyPlan grid (sheetRows sheet)) (rowCount sheet) refl) in
-        planned l (well-says sheet w) d (told l (plan ∙ ap (λ (x : Answer). answerText x (greedyPlan grid (sheetRows sheet)) (rowCount sheet)) (sym d) ∙ table))
-    by-number (inr f) = refused l (well-says sheet w) f (told l (sym (refused-text answer (greedyPlan grid (sheetRows sheet)) (rowCount sheet) f) ∙ table))
+        let d : answer ≡ doneWith (greedyNeed grid t) = done-of _ _ _ _ (done-says grid t (sheetSpace sheet) (rowCount sheet) z) in
+        let plan = sym (done-text (doneWith (greedyNeed grid t)) (greedyPlan grid t) (rowCount sheet) refl) in
+        planned t l of d (told l (plan ∙ ap (λ (x : Answer). answerText x (greedyPlan grid t) (rowCount sheet)) (sym d) ∙ table))
+    by-number (inr f) = refused t l of f (told l (sym (refused-text answer (greedyPlan grid t) (rowCount sheet) f) ∙ table))
+
+    of-table : Outcome
+    unfolding answer
+    of-table = by-number (same-or-not (planOf grid t (sheetSpace sheet) (rowCount sheet) .number) 0)
+
+  of-judged : greatestText ≤ length text → wellFormed sheet ≡ true → GoodSheet sheet 2 52 → ShapesOutcome (sheetWords sheet) → Outcome
+  of-judged l w g (lowest-bad a h d) =
+      let n = shapes-are sheet (g .version-is) .1 in
+      bad-shape a l g (subst (λ (m : ℕ). Lowest (λ r. tensorSize (sheetWords sheet) r .number ≡ 0 → ⊥) m a) n h)
+      (told l
+      (ap refusedText (sym d)
+      ∙ shapes-refused (sheetWords sheet) (sheetSpace sheet) (λ z. h .here (sym (ap answerNumber d) ∙ z))
+      ∙ shapes-reply sheet w (g .version-is)))
+  of-judged l w g (all-good f d) =
+      let n = shapes-are sheet (g .version-is) .1 in
+      of-table l (sizedTable (sheetWords sheet)) (sized-rows (sheetWords sheet) ∙ n) (of-shapes g (λ r m. f r (omega (arith, n))))
+      (shapes-sized (sheetWords sheet) (sheetSpace sheet) (ap answerNumber d) ∙ shapes-reply sheet w (g .version-is))
+
+  of-good : greatestText ≤ length text → wellFormed sheet ≡ true → {number bytes : ℕ} → Form number bytes → GoodSheet sheet number bytes → Outcome
+  of-good l w requests g = of-table l (sheetWords sheet) (rows-are sheet (g .version-is)) (of-requests g) (table-reply sheet w (g .version-is))
+  of-good l w shapes g = of-judged l w g (shapes-outcome (sheetWords sheet))
 
   -- So it is replied.
   pub outcome : Outcome
-  unfolding answer
   outcome = go (lt-or-le (length text) greatestText) (wellFormed sheet) refl
     where
       go : (length text < greatestText) ⊎ (greatestText ≤ length text) → (b : Bool) → wellFormed sheet ≡ b → Outcome
       go (inl l) b w = let n = no-room sheet text l in too-few-bytes l (sym (n .0)) (sym (n .1))
-      go (inr l) false w = bad-sheet l (λ g. contrary (well-of sheet g) w) (told l (bad-reply sheet w))
-      go (inr l) true w = by-number l w (same-or-not (planOf grid (sheetRows sheet) (sheetSpace sheet) (rowCount sheet) .number) 0)
+      go (inr l) false w = bad-sheet l (λ g. contrary (well-of sheet (g .form) (g .good)) w) (told l (bad-reply sheet w))
+      go (inr l) true w = let g = well-says sheet w in of-good l w (g .form) (g .good)

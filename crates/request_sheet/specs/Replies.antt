@@ -1,29 +1,31 @@
--- The reply as the code comes to it: no room, or a text that stands in the lent bytes, that of a table or `bad sheet`.
+-- The reply as the code comes to it: no room, or a text that stands in the lent bytes, that of a table, of shapes or `bad sheet`.
 use Prim.Native.Nat.{ℕ, _*_, _<_, _≤_}
 use mathlib.Core.Bool.{Bool, true, false}
 use mathlib.Core.List.{List, _++_}
 use mathlib.Core.Logic.{_⊎_, inl, inr}
 use mathlib.Core.Path.{_≡_, refl, sym, _∙_, ap}
 use native.Mathlib.Omega.{arith}
-use borrow.Author.Tests.{lt-ltb, le-ltb, le-leb}
+use borrow.Author.Tests.{lt-ltb, le-ltb, le-leb, eq-eqb, ne-eqb}
 use lib.Dec.{ltb, leb}
 use lib.IntN.{ℤ, pos}
 use lib.ListN.{length, getD, drop, length-append, length-drop}
 use Rattle.answer.specs.Answer.{numberOf}
 use Rattle.answer.specs.declared.Answer.{Answer}
 use Rattle.bounded.specs.Boolean.{both-hold, lt-or-le}
+use Rattle.bounded.specs.Causes.{firstCause}
 use Rattle.bounded.specs.Replaced.{replaced-at}
 use Rattle.greedy_rule.specs.DonePlans.{done-plan}
 use Rattle.greedy_rule.specs.Greedy.{greedyPlan}
 use Rattle.greedy_rule.specs.Plan.{planOf, plannedTable}
 use Rattle.text_rule.specs.TextOfOffsets.{answer-same}
-use Rattle.text_rule.specs.Text.{answerText, badSheetText, greatestText, offsetIn}
+use Rattle.text_rule.specs.Text.{answerText, refusedText, badSheetText, greatestText, offsetIn}
 use Rattle.plan_text.specs.Written.{hasRoom, writtenLength, writtenInto}
 use Rattle.request_table.specs.Limits.{grid, greatestRows}
 use Rattle.request_table.specs.Table.{rows}
-use Rattle.sheet_bytes.specs.Sheet.{wellFormed, sheetRows, sheetSpace}
+use Rattle.shape_rule.specs.Sized.{sizedTable, shapesOf}
+use Rattle.sheet_bytes.specs.Sheet.{wellFormed, version, sheetWords, sheetSpace}
 use Rattle.words.specs.Words.{natural, wordAt}
-use Rattle.request_sheet.specs.Reply.{tableText, replyText, replyOf, textAfter}
+use Rattle.request_sheet.specs.Reply.{tableText, shapesText, replyText, replyOf, textAfter}
 use Rattle.request_sheet.specs.declared.outcome.Reply.the-variants.{Text, NoRoom}
 
 -- ---- what is written
@@ -52,6 +54,16 @@ planned-told t space lent offsets answer long p q =
     told : answer .number ≡ 0 → (r : ℕ) → r < rows t → offsetIn offsets r ≡ greedyPlan grid t r
     told z r l = ap natural (ap (λ (xs : List ℤ). getD xs r (pos 0)) q ∙ done-plan grid t space lent (sym (ap numberOf p) ∙ z) .entries r l)
 
+-- The text of shapes of which one is bad is the refusal,
+pub shapes-refused : (t : List ℤ) (space : ℕ) → (shapesOf t .number ≡ 0 → ⊥) → refusedText (shapesOf t) ≡ shapesText t space
+unfolding shapesText
+shapes-refused t space f = rw (ne-eqb _ _ f, shapesText)
+
+-- and of good ones their table's.
+pub shapes-sized : (t : List ℤ) (space : ℕ) → shapesOf t .number ≡ 0 → tableText (sizedTable t) space ≡ shapesText t space
+unfolding shapesText
+shapes-sized t space e = rw (eq-eqb _ _ e, shapesText)
+
 -- ---- the reply
 
 module _ (sheet text : List ℕ) where
@@ -66,15 +78,21 @@ module _ (sheet text : List ℕ) where
   unfolding replyOf textAfter
   reply-stands l s = let no = le-ltb (length text) greatestText l in (ap Text (s .count-is) ∙ rw (no, replyOf), s .bytes-are ∙ rw (no, textAfter))
 
--- The text of a well-formed sheet is its table's,
-pub table-reply : (sheet : List ℕ) → wellFormed sheet ≡ true → tableText (sheetRows sheet) (sheetSpace sheet) ≡ replyText sheet
-unfolding replyText
-table-reply sheet e = rw (e, replyText)
+module _ (sheet : List ℕ) where
+  -- The text of a well-formed sheet of version 1 is its table's,
+  pub table-reply : wellFormed sheet ≡ true → version sheet ≡ 1 → tableText (sheetWords sheet) (sheetSpace sheet) ≡ replyText sheet
+  unfolding replyText
+  table-reply e v = rw (e, firstCause, eq-eqb _ _ v, firstCause)
 
--- and of any other `bad sheet`.
-pub bad-reply : (sheet : List ℕ) → wellFormed sheet ≡ false → badSheetText ≡ replyText sheet
-unfolding replyText
-bad-reply sheet e = rw (e, replyText)
+  -- of version 2 its shapes',
+  pub shapes-reply : wellFormed sheet ≡ true → version sheet ≡ 2 → shapesText (sheetWords sheet) (sheetSpace sheet) ≡ replyText sheet
+  unfolding replyText
+  shapes-reply e v = rw (e, firstCause, ne-eqb (version sheet) 1 (λ z. omega (arith, v, z)), firstCause)
+
+  -- and of any other sheet `bad sheet`.
+  pub bad-reply : wellFormed sheet ≡ false → badSheetText ≡ replyText sheet
+  unfolding replyText
+  bad-reply e = rw (e, firstCause)
 
 -- A text that was told lies in the lent bytes, since these are as long as they were.
 pub text-within : (sheet text : List ℕ) (count : ℕ) → replyOf sheet (length text) ≡ Text count → length (textAfter sheet text) ≡ length text → count ≤ length text

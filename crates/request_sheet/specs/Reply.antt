@@ -1,18 +1,21 @@
 -- The reply to a request sheet (document 01): the program "prints the plan, or `refused N a b need`, or `bad sheet`". A sheet is planned as the table of
--- its rows in its space, with room for every row. The reading of a sheet (`sheet_bytes`) and the text of an answer (`plan_text`) meet here alone.
+-- its rows in its space, with room for every row; one of version 2 (document 02, order 1) as the table that its shapes' sizes
+-- make. The reading of a sheet (`sheet_bytes`) and the text of an answer (`plan_text`) meet here alone.
 use Prim.Native.Nat.{ℕ}
-use mathlib.Core.Bool.{Bool, true, false}
-use mathlib.Core.List.{List, _++_}
-use lib.Dec.{ltb}
+use mathlib.Core.Bool.{true, false, not}
+use mathlib.Core.List.{List, [], _∷_, _++_}
+use lib.Dec.{eqb, ltb}
 use lib.IntN.{ℤ}
 use lib.ListN.{length, drop}
 use Rattle.answer.specs.Answer.{done, tableTooShort}
+use Rattle.bounded.specs.Causes.{_⇒_, firstCause}
 use Rattle.greedy_rule.specs.Greedy.{greedyPlan}
 use Rattle.greedy_rule.specs.Plan.{planOf}
-use Rattle.text_rule.specs.Text.{answerText, badSheetText, greatestText}
+use Rattle.text_rule.specs.Text.{answerText, refusedText, badSheetText, greatestText}
 use Rattle.request_table.specs.Limits.{grid}
 use Rattle.request_table.specs.Table.{rows}
-use Rattle.sheet_bytes.specs.Sheet.{wellFormed, sheetRows, sheetSpace}
+use Rattle.shape_rule.specs.Sized.{sizedTable, shapesOf}
+use Rattle.sheet_bytes.specs.Sheet.{wellFormed, version, sheetWords, sheetSpace}
 use Rattle.request_sheet.specs.declared.outcome.Reply.{Reply}
 use Rattle.request_sheet.specs.declared.outcome.Reply.the-variants.{Text, NoRoom}
 
@@ -20,9 +23,18 @@ use Rattle.request_sheet.specs.declared.outcome.Reply.the-variants.{Text
 unfoldable pub tableText : List ℤ → ℕ → List ℕ
 tableText t space = answerText (planOf grid t space (rows t)) (greedyPlan grid t) (rows t)
 
--- The text: that of the sheet's rows in its space, or `bad sheet`.
+-- What is told of shapes in a space: "Shapes are judged before the plan, and the first bad one is printed with a = its row"; else their table's text.
+unfoldable pub shapesText : List ℤ → ℕ → List ℕ
+shapesText t space = elim (eqb (shapesOf t .number) done) [ true ↦ tableText (sizedTable t) space | false ↦ refusedText (shapesOf t) ]
+
+-- The text: `bad sheet`, or that of the sheet's requests in its space, or of its shapes.
 unfoldable pub replyText : List ℕ → List ℕ
-replyText sheet = elim (wellFormed sheet) [ true ↦ tableText (sheetRows sheet) (sheetSpace sheet) | false ↦ badSheetText ]
+replyText sheet =
+    firstCause
+    ((not (wellFormed sheet) ⇒ badSheetText)
+    ∷ (eqb (version sheet) 1 ⇒ tableText (sheetWords sheet) (sheetSpace sheet))
+    ∷ [])
+    (shapesText (sheetWords sheet) (sheetSpace sheet))
 
 -- The answer: no room where the lent bytes are fewer than the longest text has, tested first; else how many bytes the text has.
 unfoldable pub replyOf : List ℕ → ℕ → Reply

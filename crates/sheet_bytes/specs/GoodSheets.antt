@@ -1,7 +1,8 @@
 -- A well-formed sheet in plain terms, both ways: its mark, its version and its length, in either form; and what reading gives.
-use Prim.Native.Nat.{ℕ, zero, suc, _+_, _*_, _<_, _≤_}
+use Prim.Native.Nat.{ℕ, zero, suc, _+_, _*_, _%_, _<_, _≤_}
 use mathlib.Core.Bool.{Bool, true, false, not, _&&_}
 use mathlib.Core.List.{List, [], _∷_, _++_}
+use mathlib.Core.Logic.{_⊎_, inl, inr}
 use mathlib.Core.Path.{_≡_, refl, sym, _∙_, ap}
 use native.Mathlib.Nat.{mul-assoc, mul-le-mul, mul-le-mul-right, le-of-mul-le-mul-right}
 use native.Mathlib.Omega.{arith}
@@ -9,9 +10,12 @@ use borrow.Author.Tests.{eqb-true, eqb-false, eq-eqb, ne-eqb, leb-true, le-leb, 
 use lib.Dec.{leb, eqb}
 use lib.IntN.{ℤ}
 use lib.ListN.{length, getD, drop, List·getD-eq-default}
-use Rattle.bounded.specs.Boolean.{both, both-hold}
+use Rattle.bounded.specs.Boolean.{both, both-hold, same-or-not}
 use Rattle.bounded.specs.Causes.{_⇒_, firstCause, by-causes}
 use Rattle.request_table.specs.Limits.{greatestRows}
+use Rattle.request_table.specs.Table.{rows}
+use Rattle.shape_rule.specs.ShapeTable.{shapes as shapesIn}
+use Rattle.word_lists.specs.WordsComeBack.{words-length}
 use Rattle.sheet_bytes.specs.Sheet.{marked, version, rowCount, sheetSpace, rowWords, wordCount, sheetWords, sheetBytes, wellFormed, sheetOf, wordsRead}
 use Rattle.sheet_bytes.specs.declared.Sheet.the-variants.{Requests, Shapes, Bad}
 
@@ -127,6 +131,14 @@ module _ (sheet : List ℕ) where
   pub words-within : wellFormed sheet ≡ true → (11 ≤ length sheet) × (wordCount sheet ≤ greatestRows * 13)
   words-within e = let w = well-says e in (omega (arith, w .good .whole), mul-le-mul (w .good .few) (few-words (version sheet)))
 
+  -- Where its version is not the first, it is the second.
+  pub second : wellFormed sheet ≡ true → (version sheet ≡ 1 → ⊥) → version sheet ≡ 2
+  second e f = go (well-says e .form) (well-says e .good .version-is)
+    where
+      go : {number bytes : ℕ} → Form number bytes → version sheet ≡ number → version sheet ≡ 2
+      go requests v = absurd (f v)
+      go shapes v = v
+
   -- A good sheet of version 1 is read as its requests and its space,
   pub requests-read : wellFormed sheet ≡ true → version sheet ≡ 1 → Requests (wordCount sheet) (sheetSpace sheet) ≡ sheetOf sheet
   unfolding sheetOf
@@ -151,3 +163,46 @@ module _ (sheet : List ℕ) where
   pub bad-rows : (table : List ℤ) → wellFormed sheet ≡ false → wordsRead sheet table ≡ table
   unfolding wordsRead
   bad-rows table e = rw (e, wordsRead)
+
+  -- The words are as many as its rows have.
+  words-are : {n : ℕ} → n ≡ rowWords (version sheet) → length (sheetWords sheet) ≡ rowCount sheet * n
+  words-are e = words-length sheet 11 (wordCount sheet) ∙ ap (λ (k : ℕ). rowCount sheet * k) (sym e)
+
+  -- As a request table they have as many rows as the sheet counts,
+  pub rows-are : version sheet ≡ 1 → rows (sheetWords sheet) ≡ rowCount sheet
+  rows-are v = omega (arith, words-are (request-words v))
+
+  -- and so they have as a shape table, with nothing but whole rows.
+  pub shapes-are : version sheet ≡ 2 → (length (sheetWords sheet) % 13 ≡ 0) × (shapesIn (sheetWords sheet) ≡ rowCount sheet)
+  shapes-are v = let w = words-are (shape-words v) in (omega (arith, w), omega (arith, w))
+
+  -- What was read tells the sheet: requests, that it is well formed and of version 1, with its words and its space;
+  pub requests-say : (count space : ℕ) → sheetOf sheet ≡ Requests count space
+      → (wellFormed sheet ≡ true) × (version sheet ≡ 1) × (count ≡ wordCount sheet) × (space ≡ sheetSpace sheet)
+  requests-say count space e = go (wellFormed sheet) refl (same-or-not (version sheet) 1)
+    where
+      go : (b : Bool) → wellFormed sheet ≡ b → (version sheet ≡ 1) ⊎ (version sheet ≡ 1 → ⊥)
+          → (wellFormed sheet ≡ true) × (version sheet ≡ 1) × (count ≡ wordCount sheet) × (space ≡ sheetSpace sheet)
+      go true w (inl v) = let r = requests-read w v in (w, v, (cc), (cc))
+      go true w (inr v) = let r = shapes-read w v in absurd (let z : _≡_ {A = ℕ} 0 1 = cc in omega arith)
+      go false w v = let r = bad-read w in absurd (let z : _≡_ {A = ℕ} 0 1 = cc in omega arith)
+
+  -- shapes, that it is well formed and of version 2;
+  pub shapes-say : (count space : ℕ) → sheetOf sheet ≡ Shapes count space
+      → (wellFormed sheet ≡ true) × (version sheet ≡ 2) × (count ≡ wordCount sheet) × (space ≡ sheetSpace sheet)
+  shapes-say count space e = go (wellFormed sheet) refl (same-or-not (version sheet) 1)
+    where
+      go : (b : Bool) → wellFormed sheet ≡ b → (version sheet ≡ 1) ⊎ (version sheet ≡ 1 → ⊥)
+          → (wellFormed sheet ≡ true) × (version sheet ≡ 2) × (count ≡ wordCount sheet) × (space ≡ sheetSpace sheet)
+      go true w (inl v) = let r = requests-read w v in absurd (let z : _≡_ {A = ℕ} 0 1 = cc in omega arith)
+      go true w (inr v) = let r = shapes-read w v in (w, second w v, (cc), (cc))
+      go false w v = let r = bad-read w in absurd (let z : _≡_ {A = ℕ} 0 1 = cc in omega arith)
+
+  -- nothing, that it is not well formed.
+  pub bad-says : sheetOf sheet ≡ Bad → wellFormed sheet ≡ false
+  bad-says e = go (wellFormed sheet) refl (same-or-not (version sheet) 1)
+    where
+      go : (b : Bool) → wellFormed sheet ≡ b → (version sheet ≡ 1) ⊎ (version sheet ≡ 1 → ⊥) → wellFormed sheet ≡ false
+      go true w (inl v) = let r = requests-read w v in absurd (let z : _≡_ {A = ℕ} 0 1 = cc in omega arith)
+      go true w (inr v) = let r = shapes-read w v in absurd (let z : _≡_ {A = ℕ} 0 1 = cc in omega arith)
+      go false w v = w

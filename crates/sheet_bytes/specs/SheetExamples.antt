@@ -62,18 +62,19 @@ pub sheet-a-and-a-byte : sheetOf (sheetA 1 ++ (0 ∷ [])) ≡ Bad
 unfolding littleEndian marked rowWords wellFormed sheetOf
 sheet-a-and-a-byte = refl
 
--- One int8 of 7 by 3 as the one row of a sheet of version 2, from moment 0 to 1, placed by us. A dimension past the number stands in it too.
-abbrev pub shapedSheet : List ℕ
-shapedSheet =
+-- A tensor of 7 by 3 as the one row of a sheet of version 2, with that code, from moment 0 to 1, placed by us. A dimension past the number stands in it
+-- too, −1.
+abbrev pub shapedSheet : ℕ → List ℕ
+shapedSheet code =
     (65 ∷ 82 ∷ 78 ∷ 2 ∷ 0 ∷ 1 ∷ 0 ∷ [])
     ++ space1024
-    ++ (9 ∷ 0 ∷ 0 ∷ 0 ∷ 2 ∷ 0 ∷ 0 ∷ 0 ∷ 7 ∷ 0 ∷ 0 ∷ 0 ∷ 3 ∷ 0 ∷ 0 ∷ 0 ∷ [])
+    ++ (code ∷ 0 ∷ 0 ∷ 0 ∷ 2 ∷ 0 ∷ 0 ∷ 0 ∷ 7 ∷ 0 ∷ 0 ∷ 0 ∷ 3 ∷ 0 ∷ 0 ∷ 0 ∷ [])
     ++ unplaced
     ++ replicate 20 0
     ++ (0 ∷ 0 ∷ 0 ∷ 0 ∷ 1 ∷ 0 ∷ 0 ∷ 0 ∷ [])
     ++ unplaced
 
 -- It is read as thirteen words of shapes and a space of 1,024.
-pub shaped-read : sheetOf shapedSheet ≡ Shapes 13 1024
+pub shaped-read : sheetOf (shapedSheet 9) ≡ Shapes 13 1024
 unfolding littleEndian marked rowWords wellFormed sheetOf
 shaped-read = refl

@@ -1,6 +1,7 @@
--- `request_sheet::reply` meets its contract: no room is told first; then the text of the sheet's table, or of a bad sheet, stands in the lent bytes.
-use Prim.Native.Nat.{ℕ, _*_, _≤_}
-use mathlib.Core.Bool.{true, false}
+-- `request_sheet::reply` meets its contract: no room is told first; then the text of the sheet's table, of its shapes or of a bad sheet stands in the lent
+-- bytes.
+use Prim.Native.Nat.{ℕ, _≤_}
+use mathlib.Core.Bool.{true}
 use mathlib.Core.List.{List, _++_}
 use mathlib.Core.Path.{_≡_, sym, _∙_, ap, ap₂}
 use native.Mathlib.Omega.{arith}
@@ -8,64 +9,92 @@ use denote.Ref.{now}
 use borrow.Author.Needs.{needs}
 use lib.IntN.{ℤ}
 use lib.ListN.{length, take, drop, length-append}
-use lib.Seq.{length-take-le, take-at}
+use lib.Seq.{take-at}
 use Rattle.word_lists.specs.WordsComeBack.{words-length}
-use Rattle.sheet_bytes.specs.GoodSheets.{requests-say, bad-says, well-says, good-rows, rows-are}
-use Rattle.sheet_bytes.specs.Sheet.{wellFormed, rowCount, sheetRows, sheetSpace}
+use Rattle.sheet_bytes.specs.GoodSheets.{requests-say, shapes-say, bad-says, well-says, good-rows, rows-are, shapes-are}
+use Rattle.sheet_bytes.specs.Sheet.{wellFormed, version, wordCount, sheetWords, sheetSpace}
 use Rattle.request_table.specs.Table.{rows}
-use Rattle.request_sheet.specs.Replies.{no-room, written, reply-stands, table-reply, bad-reply}
-use Rattle.request_sheet.specs.Reply.{tableText}
+use Rattle.shape_rule.specs.ShapeTable.{shapes}
+use Rattle.request_sheet.specs.Replies.{no-room, written, reply-stands, table-reply, shapes-reply, bad-reply}
+use Rattle.request_sheet.specs.Reply.{tableText, shapesText}
 use Rattle.request_sheet.proofs.reply.Statement.{statement}
 use Rattle.request_sheet.proofs.reply.Tie as tie
 
 abbrev sheetAt : tie.After-read → List ℕ
 sheetAt c = now (c .before .before .before .before .before .before .args .sheet)
 
--- what was read of a sheet that is not bad
-said : (c : tie.After-words) → let r = c .before .before in
-    (wellFormed (sheetAt r) ≡ true) × (c .words .given .0 .0 ≡ rowCount (sheetAt r) * 4) × (c .words .given .0 .1 .0 ≡ sheetSpace (sheetAt r))
-said c = requests-say _ _ _ (sym (c .before .before .read .ensures .0) ∙ c .words .given .1)
+-- ---- what was read of a sheet that is not bad
 
--- so the rows stand in front of the table
-table-is : (c : tie.After-words) → let r = c .before .before in c .before .before .read .last .1 .0 ≡ sheetRows (sheetAt r) ++ drop (rowCount (sheetAt r) * 4) (r .before .before .no-requests .result)
-table-is c = c .before .before .read .ensures .1 ∙ good-rows _ _ (said c .0)
+said : (c : tie.After-count) → let sheet = sheetAt (c .before .before) in
+    (wellFormed sheet ≡ true) × (version sheet ≡ 1) × (c .count .given .0 .0 ≡ wordCount sheet) × (c .count .given .0 .1 .0 ≡ sheetSpace sheet)
+said c = requests-say _ _ _ (sym (c .before .before .read .ensures .0) ∙ c .count .given .1)
 
--- and are what is lent to the planner
-rows-lent : (c : tie.After-words) → take (c .words .given .0 .0) (c .before .before .read .last .1 .0) ≡ sheetRows (sheetAt (c .before .before))
-rows-lent c =
-    let r = c .before .before in
-    ap₂ (λ (n : ℕ) (xs : List ℤ). take n xs) (said c .1) (table-is c)
-    ∙ take-at (sheetRows (sheetAt r)) _ (rowCount (sheetAt r) * 4) (words-length (sheetAt r) 11 (rowCount (sheetAt r) * 4))
+said-shapes : (c : tie.After-count2) → let sheet = sheetAt (c .before .before) in
+    (wellFormed sheet ≡ true) × (version sheet ≡ 2) × (c .count2 .given .0 .0 ≡ wordCount sheet) × (c .count2 .given .0 .1 .0 ≡ sheetSpace sheet)
+said-shapes c = shapes-say _ _ _ (sym (c .before .before .read .ensures .0) ∙ c .count2 .given .1)
+
+module _ (c : tie.After-read) {n : ℕ} (well : wellFormed (sheetAt c) ≡ true) (counted : n ≡ wordCount (sheetAt c)) where
+  -- its words stand in front of the table
+  stored : c .read .last .1 .0 ≡ sheetWords (sheetAt c) ++ drop (wordCount (sheetAt c)) (c .before .before .no-words .result)
+  stored = c .read .ensures .1 ∙ good-rows _ _ well
+
+  within : n ≤ length (c .read .last .1 .0)
+  within = omega (arith, counted, simp length-append at (ap length stored), words-length (sheetAt c) 11 (wordCount (sheetAt c)))
+
+  -- and are what is lent on
+  lent-on : take n (c .read .last .1 .0) ≡ sheetWords (sheetAt c)
+  lent-on =
+      ap₂ (λ (k : ℕ) (xs : List ℤ). take k xs) counted stored
+      ∙ take-at (sheetWords (sheetAt c)) _ (wordCount (sheetAt c)) (words-length (sheetAt c) 11 (wordCount (sheetAt c)))
+
+  as-many : n ≡ length (take n (c .read .last .1 .0))
+  as-many = counted ∙ sym (words-length (sheetAt c) 11 (wordCount (sheetAt c))) ∙ ap length (sym lent-on)
+
+-- ---- the needs
 
 returns : tie.Need-returns
 returns c = no-room _ _ (c .if1 .taken)
 
-no-requests-requires : tie.Need-no-requests-requires
-no-requests-requires c κs = search needs
+no-words-requires : tie.Need-no-words-requires
+no-words-requires c κs = search needs
 
 read-requires : tie.Need-read-requires
 read-requires c κs = search needs
 
-enum-known-words : tie.Need-enum-known-words
-enum-known-words c = search needs
+enum-known-count : tie.Need-enum-known-count
+enum-known-count c = search needs
 
-array-share-prefix-requests : tie.Need-array-share-prefix-requests
-array-share-prefix-requests c =
-    let w = c .before in
-    let sheet = sheetAt (w .before .before) in
-    omega (arith, said w .1, simp length-append at (ap length (table-is w)), words-length sheet 11 (rowCount sheet * 4))
+array-share-prefix-words : tie.Need-array-share-prefix-words
+array-share-prefix-words c = let s = said (c .before) in within (c .before .before .before) (s .0) (s .2)
 
 slice-aggregate-write-plan : tie.Need-slice-aggregate-write-plan
-slice-aggregate-write-plan c =
-    let w = c .before .before in
-    let sheet = sheetAt (w .before .before) in
-    said w .1 ∙ sym (words-length sheet 11 (rowCount sheet * 4)) ∙ ap length (sym (rows-lent w))
+slice-aggregate-write-plan c = let s = said (c .before .before) in as-many (c .before .before .before .before) (s .0) (s .2)
 
 write-plan-requires : tie.Need-write-plan-requires
 write-plan-requires c κs =
     let w = c .before .before .before in
-    let sheet = sheetAt (w .before .before) in
-    (omega (arith, ap rows (rows-lent w), rows-are sheet, well-says sheet (said w .0) .few), w .before .before .before .before .before .if1 .left)
+    let r = w .before .before in
+    let s = said w in
+    let all = lent-on r (s .0) (s .2) in
+    (omega (arith, ap rows all, rows-are (sheetAt r) (s .1), well-says (sheetAt r) (s .0) .good .few), r .before .before .before .if1 .left)
+
+enum-known-count-2 : tie.Need-enum-known-count-2
+enum-known-count-2 c = search needs
+
+array-share-prefix-words-2 : tie.Need-array-share-prefix-words-2
+array-share-prefix-words-2 c = let s = said-shapes (c .before) in within (c .before .before .before) (s .0) (s .2)
+
+slice-aggregate-write-shapes : tie.Need-slice-aggregate-write-shapes
+slice-aggregate-write-shapes c = let s = said-shapes (c .before .before) in as-many (c .before .before .before .before) (s .0) (s .2)
+
+write-shapes-requires : tie.Need-write-shapes-requires
+write-shapes-requires c κs =
+    let w = c .before .before .before in
+    let r = w .before .before in
+    let s = said-shapes w in
+    let all = lent-on r (s .0) (s .2) in
+    let n = shapes-are (sheetAt r) (s .1) in
+    (rw all (n .0), omega (arith, ap shapes all, n .1, well-says (sheetAt r) (s .0) .good .few), r .before .before .before .if1 .left)
 
 enum-told : tie.Need-enum-told
 enum-told c = search needs
@@ -80,7 +109,8 @@ returns-2 : tie.Need-returns-2
 returns-2 c =
     let w = c .before .before .before .before .before .before in
     let r = w .before .before in
-    let told = ap₂ tableText (rows-lent w) (said w .2) ∙ table-reply (sheetAt r) (said w .0) in
+    let s = said w in
+    let told = ap₂ tableText (lent-on r (s .0) (s .2)) (s .3) ∙ table-reply (sheetAt r) (s .0) (s .1) in
     reply-stands (sheetAt r) _ (r .before .before .before .if1 .left) (rw told at (c .before .before .write-plan .ensures))
 
 same-length-2 : tie.Need-same-length-2
@@ -88,6 +118,17 @@ same-length-2 c = search needs
 
 returns-3 : tie.Need-returns-3
 returns-3 c =
+    let w = c .before .before .before .before .before .before in
+    let r = w .before .before in
+    let s = said-shapes w in
+    let told = ap₂ shapesText (lent-on r (s .0) (s .2)) (s .3) ∙ shapes-reply (sheetAt r) (s .0) (s .1) in
+    reply-stands (sheetAt r) _ (r .before .before .before .if1 .left) (rw told at (c .before .before .write-shapes .ensures))
+
+same-length-3 : tie.Need-same-length-3
+same-length-3 c = search needs
+
+returns-4 : tie.Need-returns-4
+returns-4 c =
     let b = c .before .before .before .before in
     let r = b .before .before in
     let roomy = r .before .before .before .if1 .left in
@@ -100,15 +141,21 @@ reply-spec =
     tie.close
     (tie.spec
     returns
-    no-requests-requires
+    no-words-requires
     read-requires
-    enum-known-words
-    array-share-prefix-requests
+    enum-known-count
+    array-share-prefix-words
     slice-aggregate-write-plan
     write-plan-requires
+    enum-known-count-2
+    array-share-prefix-words-2
+    slice-aggregate-write-shapes
+    write-shapes-requires
     enum-told
     write-bad-sheet-requires
     same-length
     returns-2
     same-length-2
-    returns-3)
+    returns-3
+    same-length-3
+    returns-4)
