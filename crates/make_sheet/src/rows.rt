@@ -5,13 +5,11 @@ use crate::text;
 use decimal_text::Word;
 use request_table::GREATEST_ROWS;
 use request_table::ROW_WORDS;
+use shape_rule::SHAPE_WORDS;
 use tensor_sizes::GREATEST_DIMENSIONS;
 use units::Row;
 
 pub const WORD_BYTES: usize = 4;
-
-// A row of a shape is this many words: type code, number of dimensions, the dimensions, first moment, last moment, fixed offset.
-const SHAPE_WORDS: usize = 13;
 
 // The bytes of the most rows, in the longer form.
 pub const GREATEST_BYTES: usize = WORD_BYTES * SHAPE_WORDS * GREATEST_ROWS;

@@ -8,15 +8,16 @@ use mathlib.Core.Path.{_≡_, refl, sym, _∙_, ap}
 use native.Mathlib.Nat.{mul-assoc, mul-le-mul-left, le-of-suc-le-suc}
 use native.Mathlib.Numerals.{add-one}
 use native.Mathlib.Omega.{arith}
-use borrow.Author.Tests.{le-ltb, ne-eqb}
+use borrow.Author.Tests.{lt-ltb, le-ltb, ltb-true, ne-eqb}
+use lib.Dec.{ltb}
 use lib.IntN.{ℤ, pos}
 use lib.ListN.{length, take}
 use lib.Seq.{take-suc}
 use lib.Signed.{ltZ}
-use Rattle.answer.specs.Answer.{doneWith}
+use Rattle.answer.specs.Answer.{doneWith, refusedAt, badRow}
 use Rattle.answer.specs.declared.Answer.{Answer}
-use Rattle.bounded.specs.Boolean.{lt-or-le, either}
-use Rattle.bounded.specs.Causes.{Gives, next}
+use Rattle.bounded.specs.Boolean.{lt-or-le, either, same-test}
+use Rattle.bounded.specs.Causes.{Gives, given, next}
 use Rattle.words.specs.Words.{natural, wordAt}
 use Rattle.tensor_sizes.specs.ByteSize.{greatestDimensions, elementBytes, elements, hasNegative, dimensionCauses, sizeCauses, elementsSizeOf, byteSizeOf}
 
@@ -26,6 +27,10 @@ use Rattle.tensor_sizes.specs.ByteSize.{greatestDimensions, elementBytes
 pub elements-given : (shape : List ℤ) (bytes : ℕ) {x : Answer} → Gives (dimensionCauses shape bytes) (doneWith (elements shape * bytes)) x → x ≡ elementsSizeOf shape bytes
 unfolding elementsSizeOf
 elements-given shape bytes g = g .gives
+
+-- A dimension below 0 is told first, whatever the product.
+pub negative-told : (shape : List ℤ) (bytes : ℕ) → hasNegative shape ≡ true → refusedAt badRow 0 ≡ elementsSizeOf shape bytes
+negative-told shape bytes e = elements-given shape bytes (given e)
 
 module _ (shape : List ℤ) (code : ℤ) where
   -- What is given for a shape and a code is their answer,
@@ -98,10 +103,15 @@ capped-more cap e (suc d) =
     ⊎-elim (λ (l : e < cap). let q : min e cap ≡ e = omega arith in rw q) (λ (l : cap ≤ e). omega (arith, no-fewer (min e cap) (suc d) (omega arith), no-fewer e (suc d) (omega arith))) (lt-or-le e cap)
 
 module _ (high e b : ℕ) (some : 0 < b) where
-  -- The count that stops one above a limit passes it where the whole count does,
-  pub capped-passes : high < min e (high + 1) * b → high < e * b
-  capped-passes h = ⊎-elim (λ (l : e < high + 1). let q : min e (high + 1) ≡ e = omega arith in rw q at h) (λ (l : high + 1 ≤ e). omega (arith, no-fewer e b some)) (lt-or-le e (high + 1))
+  passes : high < min e (high + 1) * b → high < e * b
+  passes h = ⊎-elim (λ (l : e < high + 1). let q : min e (high + 1) ≡ e = omega arith in rw q at h) (λ (l : high + 1 ≤ e). omega (arith, no-fewer e b some)) (lt-or-le e (high + 1))
 
-  -- and is the whole count where it does not.
+  -- The count that stops one above a limit is the whole count where it does not pass it,
   pub capped-is : min e (high + 1) * b ≤ high → min e (high + 1) * b ≡ e * b
   capped-is h = let q : min e (high + 1) ≡ e = omega (arith, no-fewer (min e (high + 1)) b some) in rw q
+
+  -- and passes it exactly where the whole count does.
+  pub capped-test : ltb high (min e (high + 1) * b) ≡ ltb high (e * b)
+  capped-test =
+      same-test _ _ (λ t. lt-ltb _ _ (passes (ltb-true _ _ t)))
+      (λ t. lt-ltb _ _ (⊎-elim (λ l. l) (λ l. absurd (omega (arith, capped-is l, ltb-true high (e * b) t))) (lt-or-le high (min e (high + 1) * b))))

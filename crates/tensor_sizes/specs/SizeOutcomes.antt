@@ -22,7 +22,7 @@ use Rattle.words.specs.WordOrders.{within}
 use Rattle.words.specs.Words.{natural, wordAt}
 use Rattle.tensor_sizes.specs.ByteSize.{greatestDimensions, elementBytes, elements, hasNegative, sizeCauses, byteSizeOf}
 use Rattle.tensor_sizes.specs.Elements.{Element, element-bytes, element-or-none, some-bytes, small-code}
-use Rattle.tensor_sizes.specs.SizeLaws.{elements-given, size-given, elements-decide, negative-seen, negative-stands}
+use Rattle.tensor_sizes.specs.SizeLaws.{elements-given, negative-told, size-given, elements-decide, negative-seen, negative-stands}
 
 zero-elements : (shape : List ℤ) (k : ℕ) → k < length shape → wordAt shape k ≡ pos 0 → elements shape ≡ 0
 unfolding elements prod natural
@@ -89,7 +89,7 @@ module _ (shape : List ℤ) (code : ℤ) where
       go (inr l) (inl e) true n s =
           let t = typed e in
           let r = negative-stands shape n in
-          negative _ (r .0) l t (r .1) (ltZ-yes (subst T (sym (r .2)) tt)) (sym (elements-decide shape code l (some t)) ∙ sym (elements-given shape _ (given n)))
+          negative _ (r .0) l t (r .1) (ltZ-yes (subst T (sym (r .2)) tt)) (sym (elements-decide shape code l (some t)) ∙ sym (negative-told shape _ n))
       go (inr l) (inl e) false n (inl s) = let t = typed e in too-large _ l t (none-below n) s (sym (elements-decide shape code l (some t)) ∙ sym (elements-given shape _ (next n (given (lt-ltb _ _ s)))))
       go (inr l) (inl e) false n (inr s) = let t = typed e in sized _ l t (none-below n) s (sym (elements-decide shape code l (some t)) ∙ sym (elements-given shape _ (next n (next (le-ltb _ _ s) none-left))))
 

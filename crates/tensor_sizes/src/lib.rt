@@ -55,17 +55,19 @@ fn elements(shape: &[i32]) -> u64
     elements
 }
 
-// The checks 5 and 7: a dimension below 0, and the byte size.
+// The checks 5 and 7: a dimension below 0, which names no row here, and the byte size, which is not told where it is too large.
 fn size_of(shape: &[i32], bytes: u64) -> Answer
     requires { ⌜ (0 < bytes) × (bytes ≤ 16) ⌝ }
     ensures { λ r. ⌜ r ≡ elementsSizeOf (now (shape .entry)) bytes ⌝ }
 {
-    if has_negative(shape) {
-        return Answer::refused_at(Answer::BAD_ROW, 0);
-    }
+    let negative = has_negative(shape);
     let size = elements(shape) * bytes;
-    if GREATEST_SIZE < size {
-        return Answer::refused_need(Answer::NEED_EXCEEDS_SPACE, 0);
+    let too_large = GREATEST_SIZE < size;
+    if negative {
+        return Answer::refused(Answer::BAD_ROW);
+    }
+    if too_large {
+        return Answer::refused(Answer::NEED_EXCEEDS_SPACE);
     }
     Answer::done(size)
 }
