@@ -3,7 +3,7 @@ use Prim.Native.Nat.{ℕ, _*_, _<_, _≤_}
 use mathlib.Core.Bool.{Bool, true, false}
 use mathlib.Core.List.{List, _++_}
 use mathlib.Core.Logic.{_⊎_, inl, inr}
-use mathlib.Core.Path.{_≡_, refl, sym, _∙_, ap}
+use mathlib.Core.Path.{_≡_, refl, sym, _∙_, ap, subst}
 use native.Mathlib.Omega.{arith}
 use borrow.Author.Tests.{lt-ltb, le-ltb, le-leb, eq-eqb, ne-eqb}
 use lib.Dec.{ltb, leb}
@@ -34,6 +34,10 @@ use Rattle.request_sheet.specs.declared.outcome.Reply.the-variants.{Text
 pub record Stands (text before after : List ℕ) (count : ℕ) : Type 0 where
   pub count-is : count ≡ length text
   pub bytes-are : after ≡ text ++ drop (length text) before
+
+-- The same text by another name.
+pub stands-as : {text other before after : List ℕ} {count : ℕ} → text ≡ other → Stands text before after count → Stands other before after count
+stands-as {before} {after} {count} e s = subst (λ (words : List ℕ). Stands words before after count) e s
 
 -- Where there is room, what is written stands.
 pub written : {n room count : ℕ} {text before after : List ℕ} → n ≤ greatestRows → greatestText ≤ room

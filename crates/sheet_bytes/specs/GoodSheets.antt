@@ -11,12 +11,13 @@ use lib.Dec.{leb, eqb}
 use lib.IntN.{ℤ}
 use lib.ListN.{length, getD, drop, List·getD-eq-default}
 use Rattle.bounded.specs.Boolean.{both, both-hold, same-or-not}
-use Rattle.bounded.specs.Causes.{_⇒_, firstCause, by-causes}
+use Rattle.bounded.specs.Causes.{_⇒_, Gives, given, next, none-left, by-causes}
 use Rattle.request_table.specs.Limits.{greatestRows}
 use Rattle.request_table.specs.Table.{rows}
 use Rattle.shape_rule.specs.ShapeTable.{shapes as shapesIn}
 use Rattle.word_lists.specs.WordsComeBack.{words-length}
-use Rattle.sheet_bytes.specs.Sheet.{marked, version, rowCount, sheetSpace, rowWords, wordCount, sheetWords, sheetBytes, wellFormed, sheetOf, wordsRead}
+use Rattle.sheet_bytes.specs.Sheet.{marked, version, rowCount, sheetSpace, rowWords, wordCount, sheetWords, sheetBytes, wellFormed, sheetCauses, sheetOf, wordsRead}
+use Rattle.sheet_bytes.specs.declared.Sheet.{Sheet}
 use Rattle.sheet_bytes.specs.declared.Sheet.the-variants.{Requests, Shapes, Bad}
 
 -- The versions that there are, with the bytes of their rows.
@@ -139,20 +140,21 @@ module _ (sheet : List ℕ) where
       go requests v = absurd (f v)
       go shapes v = v
 
+  given-sheet : {x : Sheet} → Gives (sheetCauses sheet) (Shapes (wordCount sheet) (sheetSpace sheet)) x → x ≡ sheetOf sheet
+  unfolding sheetOf
+  given-sheet g = g .gives
+
   -- A good sheet of version 1 is read as its requests and its space,
   pub requests-read : wellFormed sheet ≡ true → version sheet ≡ 1 → Requests (wordCount sheet) (sheetSpace sheet) ≡ sheetOf sheet
-  unfolding sheetOf
-  requests-read e v = rw (e, firstCause, eq-eqb _ _ v, firstCause)
+  requests-read e v = given-sheet (next (ap not e) (given (eq-eqb _ _ v)))
 
   -- of the other as its shapes and its space,
   pub shapes-read : wellFormed sheet ≡ true → (version sheet ≡ 1 → ⊥) → Shapes (wordCount sheet) (sheetSpace sheet) ≡ sheetOf sheet
-  unfolding sheetOf
-  shapes-read e v = rw (e, firstCause, ne-eqb _ _ v, firstCause)
+  shapes-read e v = given-sheet (next (ap not e) (next (ne-eqb _ _ v) none-left))
 
   -- any other as bad.
   pub bad-read : wellFormed sheet ≡ false → Bad ≡ sheetOf sheet
-  unfolding sheetOf
-  bad-read e = rw (e, firstCause)
+  bad-read e = given-sheet (given (ap not e))
 
   -- The rows of a good sheet are put in front of the table,
   pub good-rows : (table : List ℤ) → wellFormed sheet ≡ true → wordsRead sheet table ≡ sheetWords sheet ++ drop (wordCount sheet) table

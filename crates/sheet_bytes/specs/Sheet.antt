@@ -7,7 +7,7 @@ use mathlib.Core.List.{List, [], _∷_, _++_}
 use lib.Dec.{leb, eqb}
 use lib.IntN.{ℤ}
 use lib.ListN.{length, getD, drop}
-use Rattle.bounded.specs.Causes.{_⇒_, firstCause}
+use Rattle.bounded.specs.Causes.{Cause, _⇒_, firstCause}
 use Rattle.request_table.specs.Limits.{greatestRows}
 use Rattle.word_bytes.specs.Bytes.{littleEndian}
 use Rattle.word_lists.specs.WordLists.{wordsFrom}
@@ -52,14 +52,13 @@ wellFormed sheet =
     (marked sheet && not (eqb (rowWords (version sheet)) 0))
     && (eqb (length sheet) (sheetBytes (version sheet) (rowCount sheet)) && leb (length sheet) (sheetBytes (version sheet) greatestRows))
 
--- What is read: so many words of requests, or of shapes, and a space; or a bad sheet.
+-- A bad sheet, and one of requests.
+abbrev pub sheetCauses : List ℕ → List (Cause Sheet)
+sheetCauses sheet = (not (wellFormed sheet) ⇒ Bad) ∷ (eqb (version sheet) 1 ⇒ Requests (wordCount sheet) (sheetSpace sheet)) ∷ []
+
+-- What is read: nothing from a bad sheet; else so many words of requests, or of shapes, and a space.
 unfoldable pub sheetOf : List ℕ → Sheet
-sheetOf sheet =
-    firstCause
-    ((not (wellFormed sheet) ⇒ Bad)
-    ∷ (eqb (version sheet) 1 ⇒ Requests (wordCount sheet) (sheetSpace sheet))
-    ∷ [])
-    (Shapes (wordCount sheet) (sheetSpace sheet))
+sheetOf sheet = firstCause (sheetCauses sheet) (Shapes (wordCount sheet) (sheetSpace sheet))
 
 -- The lent table in the end: the rows in front and the rest as it was; a bad sheet leaves it as it was.
 unfoldable pub wordsRead : List ℕ → List ℤ → List ℤ

@@ -15,7 +15,7 @@ use Rattle.sheet_bytes.specs.GoodSheets.{requests-say, shapes-say, bad-says, we
 use Rattle.sheet_bytes.specs.Sheet.{wellFormed, version, wordCount, sheetWords, sheetSpace}
 use Rattle.request_table.specs.Table.{rows}
 use Rattle.shape_rule.specs.ShapeTable.{shapes}
-use Rattle.request_sheet.specs.Replies.{no-room, written, reply-stands, table-reply, shapes-reply, bad-reply}
+use Rattle.request_sheet.specs.Replies.{no-room, stands-as, written, reply-stands, table-reply, shapes-reply, bad-reply}
 use Rattle.request_sheet.specs.Reply.{tableText, shapesText}
 use Rattle.request_sheet.proofs.reply.Statement.{statement}
 use Rattle.request_sheet.proofs.reply.Tie as tie
@@ -111,7 +111,7 @@ returns-2 c =
     let r = w .before .before in
     let s = said w in
     let told = ap₂ tableText (lent-on r (s .0) (s .2)) (s .3) ∙ table-reply (sheetAt r) (s .0) (s .1) in
-    reply-stands (sheetAt r) _ (r .before .before .before .if1 .left) (rw told at (c .before .before .write-plan .ensures))
+    reply-stands (sheetAt r) _ (r .before .before .before .if1 .left) (stands-as told (c .before .before .write-plan .ensures))
 
 same-length-2 : tie.Need-same-length-2
 same-length-2 c = search needs
@@ -122,7 +122,7 @@ returns-3 c =
     let r = w .before .before in
     let s = said-shapes w in
     let told = ap₂ shapesText (lent-on r (s .0) (s .2)) (s .3) ∙ shapes-reply (sheetAt r) (s .0) (s .1) in
-    reply-stands (sheetAt r) _ (r .before .before .before .if1 .left) (rw told at (c .before .before .write-shapes .ensures))
+    reply-stands (sheetAt r) _ (r .before .before .before .if1 .left) (stands-as told (c .before .before .write-shapes .ensures))
 
 same-length-3 : tie.Need-same-length-3
 same-length-3 c = search needs
@@ -134,7 +134,7 @@ returns-4 c =
     let roomy = r .before .before .before .if1 .left in
     let bad = bad-says (sheetAt r) (sym (r .read .ensures .0) ∙ b .enum-told .given .1) in
     let e = c .before .before .write-bad-sheet .ensures in
-    reply-stands (sheetAt r) _ roomy (rw (bad-reply (sheetAt r) bad) at (written (omega arith) roomy (e .0) (e .1)))
+    reply-stands (sheetAt r) _ roomy (stands-as (bad-reply (sheetAt r) bad) (written (omega arith) roomy (e .0) (e .1)))
 
 pub reply-spec : {M : Type 1} → statement M
 reply-spec =

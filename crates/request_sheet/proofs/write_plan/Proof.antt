@@ -13,7 +13,7 @@ use Rattle.text_rule.specs.Text.{answerText, offsetIn}
 use Rattle.request_table.specs.Limits.{greatestRows}
 use Rattle.request_table.specs.Table.{rows}
 use Rattle.request_sheet.specs.Reply.{tableText}
-use Rattle.request_sheet.specs.Replies.{Stands, written, planned-told}
+use Rattle.request_sheet.specs.Replies.{stands-as, written, planned-told}
 use Rattle.request_sheet.proofs.write_plan.Statement.{statement}
 use Rattle.request_sheet.proofs.write_plan.Tie as tie
 
@@ -64,7 +64,7 @@ returns c =
     ∙ planned-told t (s .args .space) lent-to offsets (p .plan .result) (lent (p .before .before)) (p .plan .ensures .0) (p .plan .ensures .1) in
     let few : length (take (rows t) (offsets ++ drop (rows t) zeros)) ≤ greatestRows = omega (arith, ap length front, planned p, s .pre .0) in
     let whole = written few (s .pre .1) (c .before .before .write-answer .ensures .0) (c .before .before .write-answer .ensures .1) in
-    rw told at whole
+    stands-as told whole
 
 pub write-plan-spec : {M : Type 1} → statement M
 write-plan-spec =

@@ -9,7 +9,7 @@ use lib.IntN.{ℤ}
 use lib.ListN.{length, take}
 use lib.Seq.{length-take-le}
 use Rattle.answer.specs.Answer.{numberOf}
-use Rattle.request_sheet.specs.Replies.{Stands, written, shapes-refused, shapes-sized}
+use Rattle.request_sheet.specs.Replies.{stands-as, written, shapes-refused, shapes-sized}
 use Rattle.request_sheet.specs.Reply.{tableText, shapesText}
 use Rattle.request_table.specs.Table.{rows}
 use Rattle.shape_rule.specs.ShapeAnswers.{Fitting, shapes-decide}
@@ -72,7 +72,7 @@ returns c =
     let t = now (s .args .shapes) in
     let no : shapesOf t .number ≡ 0 → ⊥ = λ z. refusal .if1 .taken (ap numberOf (judged f) ∙ z) in
     let told = refused-text (f .from-shapes .result) (offsetIn []) 0 (refusal .if1 .taken) ∙ ap refusedText (judged f) ∙ shapes-refused t (s .args .space) no in
-    rw told at (written {n = 0} (omega arith) (s .pre .2) (w .write-answer .ensures .0) (w .write-answer .ensures .1))
+    stands-as told (written {n = 0} (omega arith) (s .pre .2) (w .write-answer .ensures .0) (w .write-answer .ensures .1))
 
 array-share-prefix-requests-2 : tie.Need-array-share-prefix-requests-2
 array-share-prefix-requests-2 c = search needs
@@ -97,7 +97,7 @@ returns-2 c =
     let s = f .before .before .before .before in
     let good = sym (ap numberOf (judged f)) ∙ e .if1 .left in
     let told = ap (λ (xs : List ℤ). tableText xs (s .args .space)) (lent-on e) ∙ shapes-sized (now (s .args .shapes)) (s .args .space) good in
-    rw told at (w .write-plan .ensures)
+    stands-as told (w .write-plan .ensures)
 
 pub write-shapes-spec : {M : Type 1} → statement M
 write-shapes-spec =
