@@ -3,6 +3,7 @@
 use crate::functions;
 use crate::print;
 use crate::read;
+use crate::text;
 use arena_sections::Outcome;
 use arena_sections::Sections;
 
@@ -23,9 +24,15 @@ const LIFETIMES: usize = 520;
 
 const PLAN_BYTES: usize = 1100;
 
-const SHEET_BYTES: usize = 4200;
+const SHEET_BYTES: usize = 13400;
 
 const TEXT_BYTES: usize = 6000;
+
+const DIMENSIONS: usize = 12;
+
+const SHAPE_WORDS: usize = 3354;
+
+const LENT_REQUEST_WORDS: usize = 1040;
 
 // Requests; space; room for offsets.
 fn plan_requests(body: &[u8]) {
@@ -108,6 +115,24 @@ fn reply_to(body: &[u8]) {
     print::bytes(b"; bytes", text);
 }
 
+// Dimensions; type code.
+fn byte_size(body: &[u8]) {
+    let mut table = [0i32; DIMENSIONS];
+    let dimensions = read::table(body, 0, &mut table);
+    let type_code = read::word(text::part(body, 1, b';')).value;
+    print::answer(tensor_sizes::byte_size(dimensions, type_code));
+}
+
+// Shapes; room for requests.
+fn from_shapes(body: &[u8]) {
+    let mut table = [0i32; SHAPE_WORDS];
+    let mut lent = [9999i32; LENT_REQUEST_WORDS];
+    let shapes = read::table(body, 0, &mut table);
+    let requests = read::lent_words(body, 1, &mut lent);
+    print::answer(shaped_requests::from_shapes(shapes, requests));
+    print::words(b"; requests", requests);
+}
+
 // What a function of the sections answers and hands back. Opening them takes start; length. The others take head; temp; tail; usable; and two arguments,
 // of which the reset takes none and setting the head one.
 fn operate(function: usize, body: &[u8]) -> Outcome {
@@ -132,6 +157,8 @@ pub(crate) fn call(function: usize, body: &[u8]) {
         functions::READ => read_plan(body),
         functions::WRITE => write_plan(body),
         functions::REPLY => reply_to(body),
+        functions::BYTE_SIZE => byte_size(body),
+        functions::FROM_SHAPES => from_shapes(body),
         functions::NONE => print::text(b" not a vector"),
         _ => print::outcome(operate(function, body)),
     }

@@ -27,11 +27,18 @@ pub const WRITE: usize = 10;
 
 pub const REPLY: usize = 11;
 
+pub const BYTE_SIZE: usize = 12;
+
+pub const FROM_SHAPES: usize = 13;
+
 // How many there are; this stands for a line that is no vector.
-pub const NONE: usize = 12;
+pub const NONE: usize = 14;
 
 // Whether a field keeps to its limit. Words are only counted here, so that their table needs no room for them.
 fn field_fits(field: &[u8], limit: &[u8]) -> bool {
+    if text::starts(limit, b'-') {
+        return read::word(field).good;
+    }
     let most = decimal_text::natural(text::part(limit, 0, b'*')) as usize;
     if text::last(limit, b'*') == 1 {
         let mut words = [0; 1];
@@ -78,8 +85,9 @@ fn row_of(line: &[u8], rows: &[u8]) -> usize {
     row
 }
 
-// The line's function, by its number in this list. After a name stand the limits of the fields: a number is the greatest that the field may spell, and
-// one with a star the most words that its table may have, a little more than are allowed, so that a vector can pass each limit.
+// The line's function, by its number in this list. After a name stand the limits of the fields: a number is the greatest that the field may spell; one
+// with a star is the most words that its table may have, a little more than are allowed, so that a vector can pass each limit; and a minus sign stands for
+// any signed number of 32 bits.
 pub(crate) fn of(line: &[u8]) -> usize {
     row_of(
         line,
@@ -94,6 +102,8 @@ reset_temp:4294967295;4294967295;4294967295;4294967295;4294967295;4294967295
 set_head:4294967295;4294967295;4294967295;4294967295;4294967295;4294967295
 read:1100*;4294967295;260
 write:260*;1100
-reply:4200*;6000",
+reply:13400*;6000
+byte_size:12*;-
+from_shapes:3354*;1040",
     )
 }

@@ -4,6 +4,7 @@ ghost use Prim.Native.Nat.{_≤_};
 ghost use lib.ListN.{length};
 use crate::text;
 use arena_sections::Sections;
+use decimal_text::Word;
 
 // How often an entry stands in its table, of so many stars and with a good number or none.
 fn times(entry: &[u8], stars: usize, good: bool) -> u64 {
@@ -72,7 +73,7 @@ pub(crate) fn table<'a>(body: &[u8], field: usize, table: &'a mut [i32]) -> &'a 
 
 // Reads a field of bytes into a table, and gives the bytes read. A number that is no byte stands for what is left of it by 256.
 pub(crate) fn bytes<'a>(body: &[u8], field: usize, bytes: &'a mut [u8]) -> &'a [u8] {
-    let mut room = [0i32; 4200];
+    let mut room = [0i32; 13400];
     let words = table(body, field, &mut room);
     let mut count = 0;
     while (count < words.len()) & (count < bytes.len()) {
@@ -97,6 +98,11 @@ fn without_space(field: &[u8]) -> &[u8] {
 // The number of up to 64 bits that a field spells, with one space before it at most.
 pub(crate) fn single(field: &[u8]) -> usize {
     decimal_text::natural(without_space(field)) as usize
+}
+
+// The signed number of 32 bits that a field spells, with one space before it at most.
+pub(crate) fn word(field: &[u8]) -> Word {
+    decimal_text::signed(without_space(field))
 }
 
 // Reads a field that is a number of up to 64 bits.
