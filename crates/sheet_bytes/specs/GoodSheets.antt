@@ -52,15 +52,17 @@ pub few-words : (number : ℕ) → rowWords number ≤ 13
 unfolding rowWords
 few-words number = by-causes (λ (n : ℕ). n ≤ 13) ((eqb number 1 ⇒ 4) ∷ (eqb number 2 ⇒ 13) ∷ []) 0 (omega arith, (omega arith, tt)) (λ n. omega arith)
 
--- Those of the two versions, and of no other, as the code tells them apart.
+-- Version 1 has four,
 pub request-words : {number : ℕ} → number ≡ 1 → 4 ≡ rowWords number
 unfolding rowWords
 request-words e = rw e
 
+-- version 2 thirteen,
 pub shape-words : {number : ℕ} → number ≡ 2 → 13 ≡ rowWords number
 unfolding rowWords
 shape-words e = rw e
 
+-- and any other none.
 pub no-words : {number : ℕ} → (number ≡ 1 → ⊥) → (number ≡ 2 → ⊥) → 0 ≡ rowWords number
 unfolding rowWords
 no-words {number} f g = rw (ne-eqb number 1 f, ne-eqb number 2 g)
