@@ -12,7 +12,7 @@ use lib.ListN.{length}
 use Rattle.answer.specs.Answer.{numberOf, refused, refusedAt, doneWith, arenaTooShort, badAccess as badAccessNumber}
 use Rattle.answer.specs.declared.Answer.{Answer}
 use Rattle.bounded.specs.Boolean.{neither, neither-holds}
-use Rattle.bounded.specs.Causes.{NoneHolds, AllRefuse, Gives, firstCause, follows, follows-more, passed, refused-stands}
+use Rattle.bounded.specs.Causes.{NoneHolds, AllRefuse, Gives, given, next, none-left, firstCause, follows, follows-more, passed, refused-stands}
 use Rattle.bounded.specs.First.{firstIn, holdsBelow, none-holds}
 use Rattle.bounded.specs.Replaced.{replaced}
 use Rattle.request_table.specs.Checks.{shapeCauses}
@@ -35,21 +35,24 @@ pub record Sized (t o s : List ℤ) (room : ℕ) : Type 0 where
 -- ---- the checks 12 and 11, as the code goes through them
 
 module _ (t : List ℤ) (space : ℕ) (s : List ℤ) (held : ℕ) where
+  last-given : {x : Answer} → Gives (lastCauses t space s held) (doneWith 0) x → x ≡ touchesOf t space s held
+  unfolding touchesOf
+  last-given g = g .gives
+
   -- The arena first,
   pub arena-refused : held < space → refused arenaTooShort ≡ touchesOf t space s held
-  unfolding touchesOf
-  arena-refused l = rw (lt-ltb _ _ l, firstCause)
+  arena-refused l = last-given (given (lt-ltb _ _ l))
 
   -- then the lowest bad touch,
   pub touch-refused : space ≤ held → firstIn (badAccess t s) 0 (count s) < count s
       → refusedAt badAccessNumber (firstIn (badAccess t s) 0 (count s)) ≡ touchesOf t space s held
-  unfolding touchesOf holdsBelow
-  touch-refused h l = rw (le-ltb _ _ h, firstCause, lt-ltb _ _ l, firstCause)
+  unfolding holdsBelow
+  touch-refused h l = last-given (next (le-ltb _ _ h) (given (lt-ltb _ _ l)))
 
   -- and where there is none, both pass.
   pub touches-passed : space ≤ held → count s ≤ firstIn (badAccess t s) 0 (count s) → doneWith 0 ≡ touchesOf t space s held
-  unfolding touchesOf holdsBelow
-  touches-passed h l = rw (le-ltb _ _ h, firstCause, le-ltb _ _ l, firstCause)
+  unfolding holdsBelow
+  touches-passed h l = last-given (next (le-ltb _ _ h) (next (le-ltb _ _ l) none-left))
 
   touch-refuses : AllRefuse numberOf (lastCauses t space s held)
   touch-refuses = (omega arith, (omega arith, tt))

@@ -12,7 +12,7 @@ use lib.ListN.{length}
 use Rattle.answer.specs.Answer.{numberOf, refused, refusedAt, doneWith, notWholeRows, tooMany, tableTooShort, badRow, tensorNeverNamed, readBeforeWritten}
 use Rattle.answer.specs.declared.Answer.{Answer}
 use Rattle.bounded.specs.Boolean.{neither, neither-holds}
-use Rattle.bounded.specs.Causes.{Gives, NoneHolds, AllRefuse, firstCause, follows-more, passed, refused-stands}
+use Rattle.bounded.specs.Causes.{Gives, given, next, none-left, NoneHolds, AllRefuse, firstCause, follows-more, passed, refused-stands}
 use Rattle.bounded.specs.First.{firstIn, holdsBelow, none-holds, none-found}
 use Rattle.bounded.specs.Replaced.{replaced}
 use Rattle.lifetime_rule.specs.GoodUses.{Natural, good-natural}
@@ -64,11 +64,17 @@ module _ (operators tensors : ℕ) (u : List ℤ) (room : ℕ) where
 
 -- ---- the checks 20 and 21, as the code goes through them
 
+judged-given : (operators tensors : ℕ) (u : List ℤ) {x : Answer} → Gives (lifetimeCauses operators tensors u) (doneWith 0) x → x ≡ judgedOf operators tensors u
+unfolding judgedOf
+judged-given operators tensors u g = g .gives
+
 module _ (operators tensors : ℕ) (u : List ℤ) {t : ℕ} (lowest-tensor : t ≡ firstIn (unnamed operators u) 0 tensors) where
   -- The lowest tensor never named first,
   pub name-refused : t < tensors → refusedAt tensorNeverNamed t ≡ judgedOf operators tensors u
-  unfolding judgedOf holdsBelow
-  name-refused l = ap (refusedAt tensorNeverNamed) lowest-tensor ∙ rw (lt-ltb (firstIn (unnamed operators u) 0 tensors) tensors (omega (arith, lowest-tensor)), firstCause)
+  unfolding holdsBelow
+  name-refused l =
+      let some = lt-ltb (firstIn (unnamed operators u) 0 tensors) tensors (omega (arith, lowest-tensor)) in
+      ap (refusedAt tensorNeverNamed) lowest-tensor ∙ judged-given operators tensors u (given some)
 
   module _ {k : ℕ} (lowest-use : k ≡ firstIn (tooEarly u) 0 (count u)) (named-all : tensors ≤ t) where
     none-unnamed : ltb (firstIn (unnamed operators u) 0 tensors) tensors ≡ false
@@ -76,13 +82,17 @@ module _ (operators tensors : ℕ) (u : List ℤ) {t : ℕ} (lowest-tensor : t �
 
     -- then the lowest use that reads too early,
     pub read-refused : k < count u → refusedAt readBeforeWritten k ≡ judgedOf operators tensors u
-    unfolding judgedOf holdsBelow
-    read-refused l = ap (refusedAt readBeforeWritten) lowest-use ∙ rw (none-unnamed, firstCause, lt-ltb (firstIn (tooEarly u) 0 (count u)) (count u) (omega (arith, lowest-use)), firstCause)
+    unfolding holdsBelow
+    read-refused l =
+        let some = lt-ltb (firstIn (tooEarly u) 0 (count u)) (count u) (omega (arith, lowest-use)) in
+        ap (refusedAt readBeforeWritten) lowest-use ∙ judged-given operators tensors u (next none-unnamed (given some))
 
     -- and where there is none, both pass.
     pub judged-passed : count u ≤ k → doneWith 0 ≡ judgedOf operators tensors u
-    unfolding judgedOf holdsBelow
-    judged-passed l = rw (none-unnamed, firstCause, le-ltb (firstIn (tooEarly u) 0 (count u)) (count u) (omega (arith, lowest-use)), firstCause)
+    unfolding holdsBelow
+    judged-passed l =
+        let none = le-ltb (firstIn (tooEarly u) 0 (count u)) (count u) (omega (arith, lowest-use)) in
+        judged-given operators tensors u (next none-unnamed (next none none-left))
 
 -- ---- the order of all
 
@@ -143,15 +153,17 @@ module _ (operators tensors : ℕ) (u : List ℤ) (room : ℕ) where
     pub use-refused : k < count u → refusedAt badRow k ≡ listOf operators tensors u room
     unfolding holdsBelow
     use-refused l =
-        let told : refusedAt badRow (firstIn (badUse operators tensors u) 0 (count u)) ≡ firstCause (useCauses operators tensors u) (doneWith 0) = rw (lt-ltb (firstIn (badUse operators tensors u) 0 (count u)) (count u) (omega (arith, lowest-use)), firstCause) in
-        ap (refusedAt badRow) lowest-use ∙ told ∙ uses-follow
+        let some = lt-ltb (firstIn (badUse operators tensors u) 0 (count u)) (count u) (omega (arith, lowest-use)) in
+        let told : Gives (useCauses operators tensors u) (doneWith 0) (refusedAt badRow (firstIn (badUse operators tensors u) 0 (count u))) = given some in
+        ap (refusedAt badRow) lowest-use ∙ told .gives ∙ uses-follow
 
     -- and where there is none, the four pass.
     pub list-passed : count u ≤ k → doneWith 0 ≡ listOf operators tensors u room
     unfolding holdsBelow
     list-passed l =
-        let told : doneWith 0 ≡ firstCause (useCauses operators tensors u) (doneWith 0) = rw (le-ltb (firstIn (badUse operators tensors u) 0 (count u)) (count u) (omega (arith, lowest-use)), firstCause) in
-        told ∙ uses-follow
+        let none = le-ltb (firstIn (badUse operators tensors u) 0 (count u)) (count u) (omega (arith, lowest-use)) in
+        let told : Gives (useCauses operators tensors u) (doneWith 0) (doneWith 0) = next none none-left in
+        told .gives ∙ uses-follow
 
   -- They pass only so.
   pub listed : listOf operators tensors u room .number ≡ 0 → Sized operators tensors u room × EachGood operators tensors u

@@ -9,7 +9,7 @@ use lib.IntN.{ℤ}
 use lib.ListN.{length}
 use Rattle.answer.specs.Answer.{numberOf, refused, refusedAt, doneWith, spaceTooLarge, badRow as badRowNumber}
 use Rattle.answer.specs.declared.Answer.{Answer}
-use Rattle.bounded.specs.Causes.{NoneHolds, AllRefuse, Gives, firstCause, follows-more, passed, refused-stands}
+use Rattle.bounded.specs.Causes.{NoneHolds, AllRefuse, Gives, given, next, none-left, follows-more, passed, refused-stands}
 use Rattle.bounded.specs.First.{firstIn, holdsBelow, none-holds, none-found}
 use Rattle.request_table.specs.Limits.{greatestRows, greatestSpace}
 use Rattle.request_table.specs.Table.{rows, request, good, badRow}
@@ -28,20 +28,23 @@ pub record Checked (g : ℕ) (t : List ℤ) (space room : ℕ) : Type 0 where
   pub goodRows : (r : ℕ) → r < rows t → good g (request t r) ≡ true
 
 module _ (g : ℕ) (t : List ℤ) (space : ℕ) where
+  content-given : {x : Answer} → Gives (contentCauses g t space) (doneWith 0) x → x ≡ contentOf g t space
+  unfolding contentOf
+  content-given c = c .gives
+
   -- The checks 4 and 5, as the code goes through them: the space first,
   pub space-refused : greatestSpace < space → refused spaceTooLarge ≡ contentOf g t space
-  unfolding contentOf
-  space-refused l = rw (lt-ltb _ _ l, firstCause)
+  space-refused l = content-given (given (lt-ltb _ _ l))
 
   -- then the lowest bad row,
   pub row-refused : space ≤ greatestSpace → firstIn (badRow g t) 0 (rows t) < rows t → refusedAt badRowNumber (firstIn (badRow g t) 0 (rows t)) ≡ contentOf g t space
-  unfolding contentOf holdsBelow
-  row-refused s l = rw (le-ltb _ _ s, firstCause, lt-ltb _ _ l, firstCause)
+  unfolding holdsBelow
+  row-refused s l = content-given (next (le-ltb _ _ s) (given (lt-ltb _ _ l)))
 
   -- and where there is none, both pass.
   pub content-passed : space ≤ greatestSpace → rows t ≤ firstIn (badRow g t) 0 (rows t) → doneWith 0 ≡ contentOf g t space
-  unfolding contentOf holdsBelow
-  content-passed s l = rw (le-ltb _ _ s, firstCause, le-ltb _ _ l, firstCause)
+  unfolding holdsBelow
+  content-passed s l = content-given (next (le-ltb _ _ s) (next (le-ltb _ _ l) none-left))
 
 module _ (t : List ℤ) (room : ℕ) where
   -- What the checks 1 to 3 give, as the code goes through them, is their answer.
