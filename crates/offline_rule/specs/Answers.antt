@@ -1,16 +1,16 @@
 -- The answers of reading and of writing as the code comes to them, one check after the other, and what a done answer says.
-use Prim.Native.Nat.{ℕ, _<_, _≤_}
-use mathlib.Core.Bool.{Bool, true, false, not}
+use Prim.Native.Nat.{ℕ, _≤_}
+use mathlib.Core.Bool.{true, not}
 use mathlib.Core.List.{List, _++_}
 use mathlib.Core.Path.{_≡_, refl, ap}
 use native.Mathlib.Omega.{arith}
 use borrow.Author.Tests.{le-ltb, ltb-false, eq-eqb, ne-eqb, eqb-true, not-false}
-use lib.Dec.{ltb, eqb}
 use lib.IntN.{ℤ, pos, negsuc}
 use lib.ListN.{length, drop}
-use Rattle.answer.specs.Answer.{numberOf, refused, doneWith, tooMany, tableTooShort, wrongLength, otherTensorCount}
+use Rattle.answer.specs.Answer.{numberOf, doneWith}
+use Rattle.answer.specs.declared.Answer.{Answer}
 use Rattle.bounded.specs.Boolean.{contrary}
-use Rattle.bounded.specs.Causes.{NoneHolds, AllRefuse, firstCause, follows, passed}
+use Rattle.bounded.specs.Causes.{NoneHolds, AllRefuse, Gives, follows, passed}
 use Rattle.request_table.specs.Limits.{greatestRows}
 use Rattle.word_bytes.specs.Bytes.{wordOf}
 use Rattle.word_lists.specs.WordLists.{wordsFrom, withWords}
@@ -42,39 +42,10 @@ module _ (bytes : List ℕ) (tensors room : ℕ) where
   read-refuses : AllRefuse numberOf (readCauses bytes tensors room)
   read-refuses = (omega arith, (omega arith, (omega arith, (omega arith, (omega arith, tt)))))
 
-  -- The head first,
-  pub head-refused : ltb (length bytes) (planBytes 0) ≡ true → refused wrongLength ≡ readOf bytes tensors room
+  -- What is given, as the code goes through the checks, is the answer.
+  pub read-given : {x : Answer} → Gives (readCauses bytes tensors room) (doneWith 0) x → x ≡ readOf bytes tensors room
   unfolding readOf
-  head-refused a = rw (a, firstCause)
-
-  module _ (a : ltb (length bytes) (planBytes 0) ≡ false) where
-    -- then the count,
-    pub count-refused : not (isNumber (wordOf bytes countPlace) tensors) ≡ true → refused otherTensorCount ≡ readOf bytes tensors room
-    unfolding readOf
-    count-refused b = rw (a, firstCause, b, firstCause)
-
-    module _ (b : not (isNumber (wordOf bytes countPlace) tensors) ≡ false) where
-      -- then the length,
-      pub length-refused : not (eqb (length bytes) (planBytes tensors)) ≡ true → refused wrongLength ≡ readOf bytes tensors room
-      unfolding readOf
-      length-refused c = rw (a, firstCause, b, firstCause, c, firstCause)
-
-      module _ (c : not (eqb (length bytes) (planBytes tensors)) ≡ false) where
-        -- then the limit,
-        pub limit-refused : ltb greatestRows tensors ≡ true → refused tooMany ≡ readOf bytes tensors room
-        unfolding readOf
-        limit-refused d = rw (a, firstCause, b, firstCause, c, firstCause, d, firstCause)
-
-        module _ (d : ltb greatestRows tensors ≡ false) where
-          -- then the room;
-          pub room-refused : ltb room tensors ≡ true → refused tableTooShort ≡ readOf bytes tensors room
-          unfolding readOf
-          room-refused e = rw (a, firstCause, b, firstCause, c, firstCause, d, firstCause, e, firstCause)
-
-          -- and where nothing is wrong, it is done.
-          pub read-passes : ltb room tensors ≡ false → doneWith 0 ≡ readOf bytes tensors room
-          unfolding readOf
-          read-passes e = rw (a, firstCause, b, firstCause, c, firstCause, d, firstCause, e, firstCause)
+  read-given g = g .gives
 
   -- It is done only so,
   pub read-says : readOf bytes tensors room .number ≡ 0 → Readable bytes tensors room
@@ -118,21 +89,10 @@ module _ (offsets : List ℤ) (room : ℕ) where
   write-refuses : AllRefuse numberOf (writeCauses offsets room)
   write-refuses = (omega arith, (omega arith, tt))
 
-  -- The limit first,
-  pub many-refused : ltb greatestRows (length offsets) ≡ true → refused tooMany ≡ writeOf offsets room
+  -- What is given, as the code goes through the checks, is the answer.
+  pub write-given : {x : Answer} → Gives (writeCauses offsets room) (doneWith 0) x → x ≡ writeOf offsets room
   unfolding writeOf
-  many-refused a = rw (a, firstCause)
-
-  module _ (a : ltb greatestRows (length offsets) ≡ false) where
-    -- then the room;
-    pub short-refused : ltb room (planBytes (length offsets)) ≡ true → refused tableTooShort ≡ writeOf offsets room
-    unfolding writeOf
-    short-refused b = rw (a, firstCause, b, firstCause)
-
-    -- and where nothing is wrong, it is done.
-    pub write-passes : ltb room (planBytes (length offsets)) ≡ false → doneWith 0 ≡ writeOf offsets room
-    unfolding writeOf
-    write-passes b = rw (a, firstCause, b, firstCause)
+  write-given g = g .gives
 
   -- It is done only so,
   pub write-says : writeOf offsets room .number ≡ 0 → Writable offsets room

@@ -10,10 +10,11 @@ use lib.IntN.{ℤ, pos}
 use lib.ListN.{length}
 use Rattle.answer.specs.Answer.{refused, doneWith, tooMany, tableTooShort, wrongLength, otherTensorCount}
 use Rattle.bounded.specs.Boolean.{contrary, lt-or-le, same-or-not}
+use Rattle.bounded.specs.Causes.{given, next, none-left}
 use Rattle.request_table.specs.Limits.{greatestRows}
 use Rattle.word_bytes.specs.Bytes.{wordOf}
 use Rattle.offline_rule.specs.OfflinePlan.{isNumber, readOf, writeOf}
-use Rattle.offline_rule.specs.Answers.{number-says, number-of, head-refused, count-refused, length-refused, limit-refused, room-refused, read-passes, many-refused, short-refused, write-passes}
+use Rattle.offline_rule.specs.Answers.{number-says, number-of, read-given, write-given}
 
 module _ (bytes : List ℕ) (tensors room : ℕ) where
   -- What reading may answer.
@@ -33,16 +34,16 @@ module _ (bytes : List ℕ) (tensors room : ℕ) where
       go : (length bytes < 12) ⊎ (12 ≤ length bytes) → (b : Bool) → isNumber (wordOf bytes 8) tensors ≡ b
           → (length bytes ≡ 12 + tensors * 4) ⊎ (length bytes ≡ 12 + tensors * 4 → ⊥) → (greatestRows < tensors) ⊎ (tensors ≤ greatestRows)
           → (room < tensors) ⊎ (tensors ≤ room) → ReadOutcome
-      go (inl a) b e c d f = no-head a (sym (head-refused bytes tensors room (lt-ltb _ _ a)))
-      go (inr a) false e c d f = other-count a (λ q. contrary (number-of _ _ q) e) (sym (count-refused bytes tensors room (le-ltb _ _ a) (ap not e)))
+      go (inl a) b e c d f = no-head a (sym (read-given bytes tensors room (given (lt-ltb _ _ a))))
+      go (inr a) false e c d f = other-count a (λ q. contrary (number-of _ _ q) e) (sym (read-given bytes tensors room (next (le-ltb _ _ a) (given (ap not e)))))
       go (inr a) true e (inr c) d f =
-          other-length a (number-says _ _ e) c (sym (length-refused bytes tensors room (le-ltb _ _ a) (ap not e) (ap not (ne-eqb _ _ c))))
+          other-length a (number-says _ _ e) c (sym (read-given bytes tensors room (next (le-ltb _ _ a) (next (ap not e) (given (ap not (ne-eqb _ _ c)))))))
       go (inr a) true e (inl c) (inl d) f =
-          too-many (number-says _ _ e) c d (sym (limit-refused bytes tensors room (le-ltb _ _ a) (ap not e) (ap not (eq-eqb _ _ c)) (lt-ltb _ _ d)))
+          too-many (number-says _ _ e) c d (sym (read-given bytes tensors room (next (le-ltb _ _ a) (next (ap not e) (next (ap not (eq-eqb _ _ c)) (given (lt-ltb _ _ d)))))))
       go (inr a) true e (inl c) (inr d) (inl f) =
-          too-short (number-says _ _ e) c d f (sym (room-refused bytes tensors room (le-ltb _ _ a) (ap not e) (ap not (eq-eqb _ _ c)) (le-ltb _ _ d) (lt-ltb _ _ f)))
+          too-short (number-says _ _ e) c d f (sym (read-given bytes tensors room (next (le-ltb _ _ a) (next (ap not e) (next (ap not (eq-eqb _ _ c)) (next (le-ltb _ _ d) (given (lt-ltb _ _ f))))))))
       go (inr a) true e (inl c) (inr d) (inr f) =
-          done (number-says _ _ e) c d f (sym (read-passes bytes tensors room (le-ltb _ _ a) (ap not e) (ap not (eq-eqb _ _ c)) (le-ltb _ _ d) (le-ltb _ _ f)))
+          done (number-says _ _ e) c d f (sym (read-given bytes tensors room (next (le-ltb _ _ a) (next (ap not e) (next (ap not (eq-eqb _ _ c)) (next (le-ltb _ _ d) (next (le-ltb _ _ f) none-left)))))))
 
 module _ (offsets : List ℤ) (room : ℕ) where
   -- What writing may answer.
@@ -56,6 +57,6 @@ module _ (offsets : List ℤ) (room : ℕ) where
   write-outcome = go (lt-or-le greatestRows (length offsets)) (lt-or-le room (12 + length offsets * 4))
     where
       go : (greatestRows < length offsets) ⊎ (length offsets ≤ greatestRows) → (room < 12 + length offsets * 4) ⊎ (12 + length offsets * 4 ≤ room) → WriteOutcome
-      go (inl a) b = too-many-offsets a (sym (many-refused offsets room (lt-ltb _ _ a)))
-      go (inr a) (inl b) = too-few-bytes a b (sym (short-refused offsets room (le-ltb _ _ a) (lt-ltb _ _ b)))
-      go (inr a) (inr b) = written a b (sym (write-passes offsets room (le-ltb _ _ a) (le-ltb _ _ b)))
+      go (inl a) b = too-many-offsets a (sym (write-given offsets room (given (lt-ltb _ _ a))))
+      go (inr a) (inl b) = too-few-bytes a b (sym (write-given offsets room (next (le-ltb _ _ a) (given (lt-ltb _ _ b)))))
+      go (inr a) (inr b) = written a b (sym (write-given offsets room (next (le-ltb _ _ a) (next (le-ltb _ _ b) none-left))))

@@ -3,7 +3,8 @@ use mathlib.Core.Path.{sym, _∙_, ap}
 use native.Mathlib.Omega.{arith}
 use borrow.Author.Needs.{needs}
 use Rattle.answer.specs.Answer.{numberOf}
-use Rattle.offline_rule.specs.Answers.{many-refused, short-refused, write-passes, done-written, refusal-keeps-bytes}
+use Rattle.bounded.specs.Causes.{given, next, none-left}
+use Rattle.offline_rule.specs.Answers.{write-given, done-written, refusal-keeps-bytes}
 use Rattle.offline_plan.proofs.write.Statement.{statement}
 use Rattle.offline_plan.proofs.write.Tie as tie
 
@@ -18,7 +19,7 @@ refused-requires c κs = search needs
 
 returns : tie.Need-returns
 returns c =
-    let e = many-refused _ _ (c .before .if1 .taken) in
+    let e = write-given _ _ (given (c .before .if1 .taken)) in
     (c .refused .ensures ∙ e, sym (refusal-keeps-bytes _ _ (λ z. omega (arith, ap numberOf e, z))))
 
 refused-requires-2 : tie.Need-refused-requires-2
@@ -26,7 +27,7 @@ refused-requires-2 c κs = search needs
 
 returns-2 : tie.Need-returns-2
 returns-2 c =
-    let e = short-refused _ _ (c .before .before .if1 .left) (c .before .if2 .taken) in
+    let e = write-given _ _ (next (c .before .before .if1 .left) (given (c .before .if2 .taken))) in
     (c .refused2 .ensures ∙ e, sym (refusal-keeps-bytes _ _ (λ z. omega (arith, ap numberOf e, z))))
 
 put-plan-requires : tie.Need-put-plan-requires
@@ -41,7 +42,7 @@ same-length c = search needs
 returns-3 : tie.Need-returns-3
 returns-3 c =
     let f = c .before .before .before .before .before in
-    let e = write-passes _ _ (f .before .if1 .left) (f .if2 .left) in
+    let e = write-given _ _ (next (f .before .if1 .left) (next (f .if2 .left) none-left)) in
     (c .done .ensures ∙ e, c .before .before .before .put-plan .ensures ∙ sym (done-written _ _ (sym (ap numberOf e))))
 
 pub write-spec : {M : Type 1} → statement M
