@@ -9,7 +9,7 @@ use borrow.Author.Tests.{ltb-false, le-ltb, lt-ltb, eqb-true, eqb-false, eq-eqb,
 use lib.Dec.{ltb, eqb}
 use lib.IntN.{ℤ}
 use lib.ListN.{length}
-use Rattle.answer.specs.Answer.{numberOf, refused, refusedAt, doneWith, notWholeRows, tooMany, tableTooShort, badRow, tensorNeverNamed, readBeforeWritten}
+use Rattle.answer.specs.Answer.{numberOf, refused, refusedAt, doneWith, badRow, tensorNeverNamed, readBeforeWritten}
 use Rattle.answer.specs.declared.Answer.{Answer}
 use Rattle.bounded.specs.Boolean.{neither, neither-holds}
 use Rattle.bounded.specs.Causes.{Gives, given, next, none-left, NoneHolds, AllRefuse, firstCause, follows-more, passed, refused-stands}
@@ -18,7 +18,7 @@ use Rattle.bounded.specs.Replaced.{replaced}
 use Rattle.lifetime_rule.specs.GoodUses.{Natural, good-natural}
 use Rattle.lifetime_rule.specs.Lifetimes.{unnamed, tooEarly, lifetimeWord}
 use Rattle.lifetime_rule.specs.FromUses.{outOfLimits, sizeCauses, useCauses, listCauses, lifetimeCauses, causes, sizesOf, listOf, judgedOf, lifetimesOf, finalLifetimes}
-use Rattle.lifetime_rule.specs.Uses.{greatestOperators, greatestTensors, greatestUses, count, wholeUses, useAt, good, badUse}
+use Rattle.lifetime_rule.specs.Uses.{greatestOperators, greatestTensors, greatestUses, count, useAt, good, badUse}
 
 -- What lets a list, its numbers and a room pass the checks 1, 2 and 3.
 pub record Sized (operators tensors : ℕ) (u : List ℤ) (room : ℕ) : Type 0 where

@@ -1,5 +1,4 @@
 // Plans a request sheet: standard input to standard output. All that matters is in `request_sheet`.
-ghost use Prim.Native.Nat.{_+_, _*_};
 ghost use mathlib.Core.Path.{_≡_};
 ghost use lib.ListN.{length};
 ghost use Rattle.text_rule.specs.Text.{greatestText};

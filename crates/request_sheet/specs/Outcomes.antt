@@ -26,7 +26,7 @@ use Rattle.shape_rule.specs.Sized.{sizedTable}
 use Rattle.shape_rule.specs.SizedRows.{sized-rows}
 use Rattle.sheet_bytes.specs.GoodSheets.{Form, requests, shapes, Good, GoodSheet, well-says, well-of, rows-are, shapes-are}
 use Rattle.sheet_bytes.specs.Sheet.{wellFormed, rowCount, sheetWords, sheetSpace}
-use Rattle.request_sheet.specs.Replies.{Stands, no-room, shapes-refused, shapes-sized, reply-stands, table-reply, shapes-reply, bad-reply}
+use Rattle.request_sheet.specs.Replies.{no-room, shapes-refused, shapes-sized, reply-stands, table-reply, shapes-reply, bad-reply}
 use Rattle.request_sheet.specs.Reply.{tableText, replyText, replyOf, textAfter, numberOf}
 use Rattle.request_sheet.specs.declared.outcome.Reply.the-variants.{Text, NoRoom}
 

@@ -1,6 +1,6 @@
 -- The reply as the code comes to it: no room, or a text that stands in the lent bytes, that of a table, of shapes or `bad sheet`.
-use Prim.Native.Nat.{ℕ, _*_, _<_, _≤_}
-use mathlib.Core.Bool.{Bool, true, false}
+use Prim.Native.Nat.{ℕ, _<_, _≤_}
+use mathlib.Core.Bool.{true, false}
 use mathlib.Core.List.{List, _++_}
 use mathlib.Core.Logic.{_⊎_, inl, inr}
 use mathlib.Core.Path.{_≡_, refl, sym, _∙_, ap, subst}
@@ -13,7 +13,6 @@ use Rattle.answer.specs.Answer.{numberOf}
 use Rattle.answer.specs.declared.Answer.{Answer}
 use Rattle.bounded.specs.Boolean.{both-hold, lt-or-le}
 use Rattle.bounded.specs.Causes.{firstCause}
-use Rattle.bounded.specs.Replaced.{replaced-at}
 use Rattle.greedy_rule.specs.DonePlans.{done-plan}
 use Rattle.greedy_rule.specs.Greedy.{greedyPlan}
 use Rattle.greedy_rule.specs.Plan.{planOf, plannedTable}
@@ -24,7 +23,7 @@ use Rattle.request_table.specs.Limits.{grid, greatestRows}
 use Rattle.request_table.specs.Table.{rows}
 use Rattle.shape_rule.specs.Sized.{sizedTable, shapesOf}
 use Rattle.sheet_bytes.specs.Sheet.{wellFormed, version, sheetWords, sheetSpace}
-use Rattle.words.specs.Words.{natural, wordAt}
+use Rattle.words.specs.Words.{natural}
 use Rattle.request_sheet.specs.Reply.{tableText, shapesText, replyText, replyOf, textAfter}
 use Rattle.request_sheet.specs.declared.outcome.Reply.the-variants.{Text, NoRoom}
 

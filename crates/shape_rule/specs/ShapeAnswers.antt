@@ -11,7 +11,7 @@ use lib.ListN.{length}
 use Rattle.answer.specs.Answer.{numberOf, refused, refusedAt, doneWith, tooMany}
 use Rattle.answer.specs.declared.Answer.{Answer}
 use Rattle.bounded.specs.Boolean.{lt-or-le}
-use Rattle.bounded.specs.Causes.{NoneHolds, AllRefuse, Gives, given, next, none-left, firstCause, follows-more, passed, refused-stands}
+use Rattle.bounded.specs.Causes.{NoneHolds, AllRefuse, Gives, given, next, none-left, follows-more, passed, refused-stands}
 use Rattle.bounded.specs.First.{firstIn, holdsBelow}
 use Rattle.bounded.specs.Replaced.{replaced}
 use Rattle.request_table.specs.Limits.{greatestRows, greatestSpace}

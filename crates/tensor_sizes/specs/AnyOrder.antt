@@ -4,15 +4,11 @@ use mathlib.Core.Bool.{Bool, true, false, _||_, Bool-set}
 use mathlib.Core.List.{List, [], _∷_, foldr, map, prod, Perm, Perm·map, Perm·foldr-eq}
 use mathlib.Core.Path.{_≡_, refl, sym, _∙_, ap}
 use native.Mathlib.Nat.{ℕ-set, mul-left-comm}
-use lib.Dec.{ltb}
 use lib.IntN.{ℤ, pos}
 use lib.ListN.{length}
 use lib.Signed.{ltZ}
-use Rattle.answer.specs.Answer.{refused, doneWith, tooMany, badTypeCode}
-use Rattle.answer.specs.declared.Answer.{Answer}
-use Rattle.bounded.specs.Causes.{firstCause}
 use Rattle.words.specs.Words.{natural}
-use Rattle.tensor_sizes.specs.ByteSize.{greatestDimensions, elementBytes, elements, hasNegative, byteSizeOf}
+use Rattle.tensor_sizes.specs.ByteSize.{elements, hasNegative, byteSizeOf}
 
 or-exchanged : (a b c : Bool) → a || (b || c) ≡ b || (a || c)
 or-exchanged true true c = refl

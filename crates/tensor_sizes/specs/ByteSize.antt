@@ -2,7 +2,7 @@
 -- size, carried as the need". A shape is the list of its dimensions, signed words. A negative word reads as a number above every limit (`words`): no code
 -- is one, and a shape with a negative dimension is refused before its elements are counted.
 use Prim.Native.Nat.{ℕ, _*_}
-use mathlib.Core.Bool.{Bool, true, false, _||_}
+use mathlib.Core.Bool.{Bool, false, _||_}
 use mathlib.Core.List.{List, [], _∷_, foldr, map, prod}
 use lib.Dec.{eqb, ltb}
 use lib.IntN.{ℤ, pos}

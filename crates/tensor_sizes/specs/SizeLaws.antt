@@ -2,10 +2,10 @@
 -- one more than the greatest size, so that no product wraps; that this decides the same is said last.
 use Prim.Native.Nat.{ℕ, zero, suc, _+_, _*_, _<_, _≤_, min}
 use mathlib.Core.Bool.{Bool, true, false, _||_, or-false, or-true, or-assoc, true≢false}
-use mathlib.Core.List.{List, [], _∷_, _++_, prod}
+use mathlib.Core.List.{List, [], _∷_, _++_, map, map-append, prod, prod-append}
 use mathlib.Core.Logic.{⊎-elim}
 use mathlib.Core.Path.{_≡_, refl, sym, _∙_, ap}
-use native.Mathlib.Nat.{mul-assoc, mul-le-mul-left, le-of-suc-le-suc}
+use native.Mathlib.Nat.{one-mul, mul-one, mul-assoc, mul-le-mul-left, le-of-suc-le-suc}
 use native.Mathlib.Numerals.{add-one}
 use native.Mathlib.Omega.{arith}
 use borrow.Author.Tests.{lt-ltb, le-ltb, ltb-true, ne-eqb}
@@ -57,8 +57,10 @@ none-negative = refl
 
 elements-behind : (shape : List ℤ) (z : ℤ) → elements (shape ++ (z ∷ [])) ≡ elements shape * natural z
 unfolding elements prod
-elements-behind [] z = omega arith
-elements-behind (x ∷ xs) z = ap (λ (n : ℕ). natural x * n) (elements-behind xs z) ∙ sym (mul-assoc (natural x) (elements xs) (natural z))
+elements-behind shape z =
+    ap (prod _*_ 1) (map-append natural shape (z ∷ []))
+    ∙ prod-append _*_ 1 one-mul mul-assoc (map natural shape) (natural z ∷ [])
+    ∙ ap (λ (n : ℕ). prod _*_ 1 (map natural shape) * n) (mul-one (natural z))
 
 negative-behind : (shape : List ℤ) (z : ℤ) → hasNegative (shape ++ (z ∷ [])) ≡ hasNegative shape || ltZ z (pos 0)
 unfolding hasNegative

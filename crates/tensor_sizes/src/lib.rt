@@ -3,7 +3,6 @@
 ghost use mathlib.Core.Path.{_≡_};
 ghost use Prim.Native.Nat.{min, _+_, _*_, _≤_, _<_};
 ghost use Rattle.request_table.specs.Limits.{greatestSpace};
-ghost use Rattle.words.specs.Words.{natural};
 ghost use Rattle.tensor_sizes.specs.ByteSize.{elements as elementsOf, hasNegative, elementsSizeOf, byteSizeOf};
 use answer::Answer;
 

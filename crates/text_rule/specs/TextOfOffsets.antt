@@ -7,7 +7,7 @@ use native.Mathlib.Omega.{arith}
 use Rattle.answer.specs.Answer.{done}
 use Rattle.answer.specs.declared.Answer.{Answer}
 use Rattle.bounded.specs.Boolean.{same-or-not}
-use Rattle.text_rule.specs.Text.{headLine, rowLine, rowLines, planText, refusedText, answerText}
+use Rattle.text_rule.specs.Text.{headLine, rowLine, rowLines, planText, answerText}
 use Rattle.text_rule.specs.TextCases.{done-text, refused-text}
 
 -- Offsets that agree on the rows give the same lines.

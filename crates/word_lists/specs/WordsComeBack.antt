@@ -12,7 +12,7 @@ use lib.Seq.{getD-take, getD-drop, ext-getD, take-all}
 use lib.Signed.{mag}
 use Rattle.bounded.specs.Boolean.{lt-or-le}
 use Rattle.word_bytes.specs.Bytes.{wordOf, withWord}
-use Rattle.word_bytes.specs.BytesComeBack.{word-just-put, word-elsewhere, word-same, byte-elsewhere, byte-copied, put-behind, front-stays, length-kept}
+use Rattle.word_bytes.specs.BytesComeBack.{word-just-put, word-same, byte-elsewhere, byte-copied, put-behind, front-stays, length-kept}
 use Rattle.word_lists.specs.WordLists.{wordsFrom, withWords}
 
 -- Every word of the list is one of 32 bits.

@@ -1,6 +1,6 @@
 -- `access_script::judge_accesses` meets its contract: the arena, then the lowest bad touch.
 use Prim.Native.Nat.{_<_, _≤_, zero-le}
-use mathlib.Core.Path.{_≡_, _∙_}
+use mathlib.Core.Path.{_∙_}
 use native.Mathlib.Omega.{arith}
 use denote.Ref.{now}
 use borrow.Author.Tests.{ltb-true, ltb-false}

@@ -1,5 +1,4 @@
 -- `offline_checks::check` meets its contract: each cause is told where none before it holds.
-use Prim.Native.Nat.{_≤_}
 use mathlib.Core.Bool.{Bool, not}
 use mathlib.Core.Path.{_≡_, sym, _∙_, ap}
 use denote.Ref.{now}

@@ -1,5 +1,4 @@
 -- `offline_checks::is_for` meets its contract.
-use mathlib.Core.Bool.{Bool}
 use mathlib.Core.Path.{_∙_, ap}
 use borrow.Author.Needs.{needs}
 use Rattle.word_bytes.specs.Bytes.{signedWord, wordOf}

@@ -1,13 +1,13 @@
 -- `offline_plan::read` meets its contract: a refusal stands; past it the words behind the head are the offsets.
-use Prim.Native.Nat.{_≤_, _-_}
+use Prim.Native.Nat.{_-_}
 use mathlib.Core.List.{List, _++_}
-use mathlib.Core.Path.{_≡_, sym, _∙_, ap}
+use mathlib.Core.Path.{sym, _∙_, ap}
 use native.Mathlib.Omega.{arith}
 use denote.Ref.{now}
 use borrow.Author.Needs.{needs}
 use lib.IntN.{ℤ}
-use lib.ListN.{length, take, drop, length-take, length-drop}
-use lib.Seq.{length-take-le, take-all}
+use lib.ListN.{length, take, drop, length-take}
+use lib.Seq.{length-take-le}
 use Rattle.answer.specs.Answer.{numberOf}
 use Rattle.offline_rule.specs.Answers.{Readable, read-says, done-read, refusal-keeps-offsets}
 use Rattle.word_lists.specs.WordLists.{wordsFrom}

@@ -1,16 +1,15 @@
 -- `request_sheet::write_shapes` meets its contract: the table of requests has room for all rows, so that the shapes alone decide.
-use Prim.Native.Nat.{ℕ, _*_, _≤_}
+use Prim.Native.Nat.{_*_}
 use mathlib.Core.List.{List, []}
-use mathlib.Core.Path.{_≡_, sym, _∙_, ap, ap₂}
+use mathlib.Core.Path.{_≡_, sym, _∙_, ap}
 use native.Mathlib.Omega.{arith}
 use denote.Ref.{now}
 use borrow.Author.Needs.{needs}
 use lib.IntN.{ℤ}
 use lib.ListN.{length, take}
-use lib.Seq.{length-take-le}
 use Rattle.answer.specs.Answer.{numberOf}
 use Rattle.request_sheet.specs.Replies.{stands-as, written, shapes-refused, shapes-sized}
-use Rattle.request_sheet.specs.Reply.{tableText, shapesText}
+use Rattle.request_sheet.specs.Reply.{tableText}
 use Rattle.request_table.specs.Table.{rows}
 use Rattle.shape_rule.specs.ShapeAnswers.{Fitting, shapes-decide}
 use Rattle.shape_rule.specs.ShapeTable.{shapes}

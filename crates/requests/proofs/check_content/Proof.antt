@@ -1,6 +1,6 @@
 -- `requests::check_content` meets its contract: the space, then the lowest bad row.
 use Prim.Native.Nat.{_<_, _≤_, zero-le}
-use mathlib.Core.Path.{_≡_, _∙_}
+use mathlib.Core.Path.{_∙_}
 use native.Mathlib.Omega.{arith}
 use denote.Ref.{now}
 use borrow.Author.Tests.{ltb-true, ltb-false}

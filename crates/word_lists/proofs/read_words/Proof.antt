@@ -4,7 +4,7 @@ use mathlib.Core.Path.{_≡_, sym, _∙_, ap, ap₂}
 use native.Mathlib.Omega.{arith}
 use denote.Ref.{now}
 use borrow.Author.Needs.{needs}
-use lib.ListN.{length, set, length-set}
+use lib.ListN.{length, set}
 use Rattle.bounded.specs.Replaced.{replaced, replaced-none, replaced-more, replaced-length}
 use Rattle.word_bytes.specs.Bytes.{wordOf}
 use Rattle.words.proofs.Signed.{read}
