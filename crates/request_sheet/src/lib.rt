@@ -1,9 +1,7 @@
 // The reply to a request sheet (document 01, "The request sheet"; document 02, order 1, for version 2): the sheet is read, its shapes sized where it has
 // them, its table planned and the answer told as text. Reading a sheet and writing a text are crates that do not know each other.
-mod outcome;
-
-pub use outcome::Reply;
 pub use plan_text::GREATEST_TEXT;
+pub use reply_rule::Reply;
 pub use sheet_bytes::GREATEST_SHEET;
 ghost use Prim.Native.Nat.{_*_, _%_, _≤_};
 ghost use mathlib.Core.Path.{_≡_};
@@ -12,14 +10,14 @@ ghost use Rattle.text_rule.specs.Text.{greatestText};
 ghost use Rattle.request_table.specs.Limits.{greatestRows};
 ghost use Rattle.request_table.specs.Table.{rows};
 ghost use Rattle.shape_rule.specs.ShapeTable.{shapes as shapesIn};
-ghost use Rattle.request_sheet.specs.Replies.{Stands};
-ghost use Rattle.request_sheet.specs.Reply.{tableText, shapesText, replyOf, textAfter};
+ghost use Rattle.reply_rule.specs.Replies.{Stands};
+ghost use Rattle.reply_rule.specs.Reply.{tableText, shapesText, replyOf, textAfter};
 use answer::Answer;
 use request_table::GREATEST_ROWS;
 use request_table::ROW_WORDS;
 use shape_rule::SHAPE_WORDS;
 use sheet_bytes::SHEET_WORDS;
-use sheet_bytes::Sheet;
+use sheet_rule::Sheet;
 
 // The words of the longest request table.
 const REQUEST_WORDS: usize = GREATEST_ROWS * ROW_WORDS;

@@ -5,10 +5,11 @@ ghost use mathlib.Core.List.{_++_};
 ghost use mathlib.Core.Path.{_≡_};
 ghost use lib.ListN.{length, drop};
 ghost use Rattle.word_lists.specs.WordLists.{wordsFrom};
-ghost use Rattle.sheet_bytes.specs.Sheet.{marked, rowWords, wellFormed, sheetOf, wordsRead};
+ghost use Rattle.sheet_rule.specs.Sheet.{marked, rowWords, wellFormed, sheetOf, wordsRead};
 use request_table::GREATEST_ROWS;
 use request_table::ROW_WORDS;
 use shape_rule::SHAPE_WORDS;
+use sheet_rule::Sheet;
 use word_lists::WORD_BYTES;
 
 // Where the parts of the head stand, behind the mark's three bytes.
@@ -27,13 +28,6 @@ const SHAPE_VERSION: u32 = 2;
 pub const SHEET_WORDS: usize = GREATEST_ROWS * SHAPE_WORDS;
 // No sheet has more bytes than this.
 pub const GREATEST_SHEET: usize = HEAD_BYTES + SHEET_WORDS * WORD_BYTES;
-
-// What a sheet says: a table of so many words and a space, or nothing that can be read.
-pub enum Sheet {
-    Requests(usize, u32),
-    Shapes(usize, u32),
-    Bad,
-}
 
 // Whether the sheet starts with the mark ARN.
 fn is_marked(sheet: &[u8]) -> bool

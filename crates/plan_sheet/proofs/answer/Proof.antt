@@ -4,7 +4,7 @@ use mathlib.Core.Path.{sym, _∙_, ap}
 use borrow.Author.Needs.{needs}
 use lib.ListN.{length}
 use lib.Seq.{length-take-le}
-use Rattle.request_sheet.specs.Replies.{text-within}
+use Rattle.reply_rule.specs.Replies.{text-within}
 use Rattle.plan_sheet.proofs.answer.Statement.{statement}
 use Rattle.plan_sheet.proofs.answer.Tie as tie
 

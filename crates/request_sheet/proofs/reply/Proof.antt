@@ -11,12 +11,13 @@ use lib.IntN.{ℤ}
 use lib.ListN.{length, take, drop, length-append}
 use lib.Seq.{take-at}
 use Rattle.word_lists.specs.WordsComeBack.{words-length}
-use Rattle.sheet_bytes.specs.GoodSheets.{requests-say, shapes-say, bad-says, well-says, good-rows, rows-are, shapes-are}
-use Rattle.sheet_bytes.specs.Sheet.{wellFormed, version, wordCount, sheetWords, sheetSpace}
+use Rattle.sheet_rule.specs.GoodSheets.{requests-say, shapes-say, bad-says, well-says, good-rows, rows-are, shapes-are}
+use Rattle.sheet_rule.specs.Sheet.{wellFormed, version, wordCount, sheetWords, sheetSpace}
 use Rattle.request_table.specs.Table.{rows}
 use Rattle.shape_rule.specs.ShapeTable.{shapes}
-use Rattle.request_sheet.specs.Replies.{no-room, stands-as, written, reply-stands, table-reply, shapes-reply, bad-reply}
-use Rattle.request_sheet.specs.Reply.{tableText, shapesText}
+use Rattle.reply_rule.specs.Replies.{no-room, stands-as, reply-stands, table-reply, shapes-reply, bad-reply}
+use Rattle.reply_rule.specs.Reply.{tableText, shapesText}
+use Rattle.request_sheet.proofs.Writing.{written}
 use Rattle.request_sheet.proofs.reply.Statement.{statement}
 use Rattle.request_sheet.proofs.reply.Tie as tie
 

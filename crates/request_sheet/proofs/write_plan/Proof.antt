@@ -11,8 +11,9 @@ use lib.Seq.{length-take-le, take-at}
 use Rattle.text_rule.specs.Text.{answerText, offsetIn}
 use Rattle.request_table.specs.Limits.{greatestRows}
 use Rattle.request_table.specs.Table.{rows}
-use Rattle.request_sheet.specs.Reply.{tableText}
-use Rattle.request_sheet.specs.Replies.{stands-as, written, planned-told}
+use Rattle.reply_rule.specs.Reply.{tableText}
+use Rattle.reply_rule.specs.Replies.{stands-as, planned-told}
+use Rattle.request_sheet.proofs.Writing.{written}
 use Rattle.request_sheet.proofs.write_plan.Statement.{statement}
 use Rattle.request_sheet.proofs.write_plan.Tie as tie
 

@@ -8,8 +8,8 @@ use borrow.Author.Needs.{needs}
 use lib.IntN.{ℤ}
 use lib.ListN.{length, take}
 use Rattle.answer.specs.Answer.{numberOf}
-use Rattle.request_sheet.specs.Replies.{stands-as, written, shapes-refused, shapes-sized}
-use Rattle.request_sheet.specs.Reply.{tableText}
+use Rattle.reply_rule.specs.Replies.{stands-as, shapes-refused, shapes-sized}
+use Rattle.reply_rule.specs.Reply.{tableText}
 use Rattle.request_table.specs.Table.{rows}
 use Rattle.shape_rule.specs.ShapeAnswers.{Fitting, shapes-decide}
 use Rattle.shape_rule.specs.ShapeTable.{shapes}
@@ -17,6 +17,7 @@ use Rattle.shape_rule.specs.Sized.{shapesOf, sizedTable}
 use Rattle.shape_rule.specs.SizedRows.{sized-length, sized-rows, stored-rows}
 use Rattle.text_rule.specs.Text.{refusedText, offsetIn}
 use Rattle.text_rule.specs.TextCases.{refused-text}
+use Rattle.request_sheet.proofs.Writing.{written}
 use Rattle.request_sheet.proofs.write_shapes.Statement.{statement}
 use Rattle.request_sheet.proofs.write_shapes.Tie as tie
 

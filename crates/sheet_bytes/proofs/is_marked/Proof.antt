@@ -1,8 +1,8 @@
 -- `sheet_bytes::is_marked` meets its contract: the three bytes are those of the definition.
 use mathlib.Core.Path.{refl}
 use borrow.Author.Needs.{needs}
-use Rattle.sheet_bytes.specs.Sheet.{marked}
-use Rattle.sheet_bytes.specs.GoodSheets.{unmarked}
+use Rattle.sheet_rule.specs.Sheet.{marked}
+use Rattle.sheet_rule.specs.GoodSheets.{unmarked}
 use Rattle.sheet_bytes.proofs.is_marked.Statement.{statement}
 use Rattle.sheet_bytes.proofs.is_marked.Tie as tie
 

@@ -5,8 +5,8 @@ use native.Mathlib.Nat.{mul-le-mul}
 use native.Mathlib.Omega.{arith}
 use denote.Ref.{now}
 use borrow.Author.Needs.{needs}
-use Rattle.sheet_bytes.specs.GoodSheets.{few-words}
-use Rattle.sheet_bytes.specs.Sheet.{wellFormed, version, rowWords}
+use Rattle.sheet_rule.specs.GoodSheets.{few-words}
+use Rattle.sheet_rule.specs.Sheet.{wellFormed, version, rowWords}
 use Rattle.sheet_bytes.proofs.is_well_formed.Statement.{statement}
 use Rattle.sheet_bytes.proofs.is_well_formed.Tie as tie
 

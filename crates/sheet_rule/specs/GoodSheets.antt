@@ -16,9 +16,9 @@ use Rattle.request_table.specs.Limits.{greatestRows}
 use Rattle.request_table.specs.Table.{rows}
 use Rattle.shape_rule.specs.ShapeTable.{shapes as shapesIn}
 use Rattle.word_lists.specs.WordsComeBack.{words-length}
-use Rattle.sheet_bytes.specs.Sheet.{marked, version, rowCount, sheetSpace, rowWords, wordCount, sheetWords, sheetBytes, wellFormed, sheetCauses, sheetOf, wordsRead}
-use Rattle.sheet_bytes.specs.declared.Sheet.{Sheet}
-use Rattle.sheet_bytes.specs.declared.Sheet.the-variants.{Requests, Shapes, Bad}
+use Rattle.sheet_rule.specs.Sheet.{marked, version, rowCount, sheetSpace, rowWords, wordCount, sheetWords, sheetBytes, wellFormed, sheetCauses, sheetOf, wordsRead}
+use Rattle.sheet_rule.specs.declared.Sheet.{Sheet}
+use Rattle.sheet_rule.specs.declared.Sheet.the-variants.{Requests, Shapes, Bad}
 
 -- The versions that there are, with the bytes of their rows.
 pub data Form : ℕ → ℕ → Type 0 where

@@ -24,11 +24,11 @@ use Rattle.shape_rule.specs.ShapeOutcomes.{ShapesOutcome, lowest-bad, all-good,
 use Rattle.shape_rule.specs.ShapeTable.{tensorSize}
 use Rattle.shape_rule.specs.Sized.{sizedTable}
 use Rattle.shape_rule.specs.SizedRows.{sized-rows}
-use Rattle.sheet_bytes.specs.GoodSheets.{Form, requests, shapes, Good, GoodSheet, well-says, well-of, rows-are, shapes-are}
-use Rattle.sheet_bytes.specs.Sheet.{wellFormed, rowCount, sheetWords, sheetSpace}
-use Rattle.request_sheet.specs.Replies.{no-room, shapes-refused, shapes-sized, reply-stands, table-reply, shapes-reply, bad-reply}
-use Rattle.request_sheet.specs.Reply.{tableText, replyText, replyOf, textAfter, numberOf}
-use Rattle.request_sheet.specs.declared.outcome.Reply.the-variants.{Text, NoRoom}
+use Rattle.sheet_rule.specs.GoodSheets.{Form, requests, shapes, Good, GoodSheet, well-says, well-of, rows-are, shapes-are}
+use Rattle.sheet_rule.specs.Sheet.{wellFormed, rowCount, sheetWords, sheetSpace}
+use Rattle.reply_rule.specs.Replies.{no-room, shapes-refused, shapes-sized, reply-stands, table-reply, shapes-reply, bad-reply}
+use Rattle.reply_rule.specs.Reply.{tableText, replyText, replyOf, textAfter, numberOf}
+use Rattle.reply_rule.specs.declared.Reply.the-variants.{Text, NoRoom}
 
 -- No room is number 3, and a text is done.
 pub numbers : (n : ℕ) → (numberOf NoRoom ≡ 3) × (numberOf (Text n) ≡ 0)

@@ -19,13 +19,13 @@ use Rattle.request_table.specs.Buffers.{liveTogether, shareByte, collides, endO
 use Rattle.request_table.specs.Table.{request, good}
 use Rattle.shape_rule.specs.ShapeTable.{tensorSize, badShape}
 use Rattle.shape_rule.specs.Sized.{requestWord, sizedTable, shapesOf}
-use Rattle.sheet_bytes.specs.Sheet.{marked, rowWords, wellFormed}
-use Rattle.sheet_bytes.specs.SheetExamples.{headOf, rowsOfA, sheetA, shapedSheet}
+use Rattle.sheet_rule.specs.Sheet.{marked, rowWords, wellFormed}
+use Rattle.sheet_rule.specs.SheetExamples.{headOf, rowsOfA, sheetA, shapedSheet}
 use Rattle.tensor_sizes.specs.ByteSize.{oneOf, elementBytes, elements, hasNegative, byteSizeOf}
 use Rattle.word_bytes.specs.Bytes.{littleEndian, signedWord, wordOf}
 use Rattle.word_lists.specs.WordLists.{wordsFrom}
 use Rattle.words.specs.Words.{natural, isMinusOne}
-use Rattle.request_sheet.specs.Reply.{tableText, shapesText, replyText}
+use Rattle.reply_rule.specs.Reply.{tableText, shapesText, replyText}
 
 -- `head 176`, `0 0`, `1 112`, `2 0`.
 abbrev fourLines : List ℕ

@@ -11,8 +11,8 @@ use Rattle.bounded.specs.Causes.{Cause, _⇒_, firstCause}
 use Rattle.request_table.specs.Limits.{greatestRows}
 use Rattle.word_bytes.specs.Bytes.{littleEndian}
 use Rattle.word_lists.specs.WordLists.{wordsFrom}
-use Rattle.sheet_bytes.specs.declared.Sheet.{Sheet}
-use Rattle.sheet_bytes.specs.declared.Sheet.the-variants.{Requests, Shapes, Bad}
+use Rattle.sheet_rule.specs.declared.Sheet.{Sheet}
+use Rattle.sheet_rule.specs.declared.Sheet.the-variants.{Requests, Shapes, Bad}
 
 -- "Mark ARN (41 52 4E)",
 unfoldable pub marked : List ℕ → Bool

@@ -1,4 +1,4 @@
-// What a reply comes to. It stands in a module of its own, since a function has its name in small letters.
+// What a reply to a request sheet comes to. Its text, and what it leaves in the lent bytes, is in specs/.
 
 // So many bytes of text, or too few bytes were lent, which is number 3.
 pub enum Reply {

@@ -15,9 +15,9 @@ use Rattle.text_rule.specs.Text.{answerText, refusedText, badSheetText, greates
 use Rattle.request_table.specs.Limits.{grid}
 use Rattle.request_table.specs.Table.{rows}
 use Rattle.shape_rule.specs.Sized.{sizedTable, shapesOf}
-use Rattle.sheet_bytes.specs.Sheet.{wellFormed, version, sheetWords, sheetSpace}
-use Rattle.request_sheet.specs.declared.outcome.Reply.{Reply}
-use Rattle.request_sheet.specs.declared.outcome.Reply.the-variants.{Text, NoRoom}
+use Rattle.sheet_rule.specs.Sheet.{wellFormed, version, sheetWords, sheetSpace}
+use Rattle.reply_rule.specs.declared.Reply.{Reply}
+use Rattle.reply_rule.specs.declared.Reply.the-variants.{Text, NoRoom}
 
 -- What is told of a table in a space: the planner's answer with room for every row, and where it is done each row's offset.
 unfoldable pub tableText : List ℤ → ℕ → List ℕ

@@ -7,8 +7,8 @@ use lib.IntN.{pos, negsuc}
 use lib.ListN.{replicate}
 use Rattle.word_bytes.specs.Bytes.{littleEndian, signedWord, wordOf}
 use Rattle.word_lists.specs.WordLists.{wordsFrom}
-use Rattle.sheet_bytes.specs.Sheet.{marked, rowWords, sheetWords, wellFormed, sheetOf}
-use Rattle.sheet_bytes.specs.declared.Sheet.the-variants.{Requests, Shapes, Bad}
+use Rattle.sheet_rule.specs.Sheet.{marked, rowWords, sheetWords, wellFormed, sheetOf}
+use Rattle.sheet_rule.specs.declared.Sheet.the-variants.{Requests, Shapes, Bad}
 
 -- The mark, a version and three rows.
 abbrev pub headOf : ℕ → List ℕ

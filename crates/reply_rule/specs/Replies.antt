@@ -5,27 +5,26 @@ use mathlib.Core.List.{List, _++_}
 use mathlib.Core.Logic.{_⊎_, inl, inr}
 use mathlib.Core.Path.{_≡_, refl, sym, _∙_, ap, subst}
 use native.Mathlib.Omega.{arith}
-use borrow.Author.Tests.{lt-ltb, le-ltb, le-leb, eq-eqb, ne-eqb}
-use lib.Dec.{ltb, leb}
+use borrow.Author.Tests.{lt-ltb, le-ltb, eq-eqb, ne-eqb}
+use lib.Dec.{ltb}
 use lib.IntN.{ℤ, pos}
 use lib.ListN.{length, getD, drop, length-append, length-drop}
 use Rattle.answer.specs.Answer.{numberOf}
 use Rattle.answer.specs.declared.Answer.{Answer}
-use Rattle.bounded.specs.Boolean.{both-hold, lt-or-le}
+use Rattle.bounded.specs.Boolean.{lt-or-le}
 use Rattle.bounded.specs.Causes.{firstCause}
 use Rattle.greedy_rule.specs.DonePlans.{done-plan}
 use Rattle.greedy_rule.specs.Greedy.{greedyPlan}
 use Rattle.greedy_rule.specs.Plan.{planOf, plannedTable}
 use Rattle.text_rule.specs.TextOfOffsets.{answer-same}
 use Rattle.text_rule.specs.Text.{answerText, refusedText, badSheetText, greatestText, offsetIn}
-use Rattle.plan_text.specs.Written.{hasRoom, writtenLength, writtenInto}
-use Rattle.request_table.specs.Limits.{grid, greatestRows}
+use Rattle.request_table.specs.Limits.{grid}
 use Rattle.request_table.specs.Table.{rows}
 use Rattle.shape_rule.specs.Sized.{sizedTable, shapesOf}
-use Rattle.sheet_bytes.specs.Sheet.{wellFormed, version, sheetWords, sheetSpace}
+use Rattle.sheet_rule.specs.Sheet.{wellFormed, version, sheetWords, sheetSpace}
 use Rattle.words.specs.Words.{natural}
-use Rattle.request_sheet.specs.Reply.{tableText, shapesText, replyText, replyOf, textAfter}
-use Rattle.request_sheet.specs.declared.outcome.Reply.the-variants.{Text, NoRoom}
+use Rattle.reply_rule.specs.Reply.{tableText, shapesText, replyText, replyOf, textAfter}
+use Rattle.reply_rule.specs.declared.Reply.the-variants.{Text, NoRoom}
 
 -- ---- what is written
 
@@ -37,14 +36,6 @@ pub record Stands (text before after : List ℕ) (count : ℕ) : Type 0 where
 -- The same text by another name.
 pub stands-as : {text other before after : List ℕ} {count : ℕ} → text ≡ other → Stands text before after count → Stands other before after count
 stands-as {before} {after} {count} e s = subst (λ (words : List ℕ). Stands words before after count) e s
-
--- Where there is room, what is written stands.
-pub written : {n room count : ℕ} {text before after : List ℕ} → n ≤ greatestRows → greatestText ≤ room
-    → count ≡ writtenLength (hasRoom n room) text → after ≡ writtenInto (hasRoom n room) text before → Stands text before after count
-unfolding hasRoom writtenLength writtenInto
-written {n} {room} few roomy p q =
-    let yes : hasRoom n room ≡ true = both-hold (leb n greatestRows) (leb greatestText room) (le-leb n greatestRows few) (le-leb greatestText room roomy) in
-    record { count-is = p ∙ rw (yes, writtenLength); bytes-are = q ∙ rw (yes, writtenInto) }
 
 -- The planner's table and answer are told as the table's text.
 pub planned-told : (t : List ℤ) (space : ℕ) (lent offsets : List ℤ) (answer : Answer) → length lent ≡ rows t → answer ≡ planOf grid t space (length lent)
