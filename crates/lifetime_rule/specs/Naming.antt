@@ -50,7 +50,7 @@ module _ (u : List ℤ) (k : ℕ) where
   unfolding names useAt natural
   names-of t m (by-reading r w o) = rw (r, w, o) (both-hold _ _ (eq-eqb t t refl) (rw (eq-eqb m m refl)))
   names-of t m (by-writing r w o) = rw (r, w, o) (both-hold _ _ (eq-eqb t t refl) (rw (eq-eqb m m refl)))
-  names-of t m (as-input r w z) = rw (r, w, z) (both-hold _ _ (eq-eqb t t refl) refl)
+  names-of t m (as-input r w z) = rw (r, w) (both-hold _ _ (eq-eqb t t refl) (eq-eqb 0 m (sym z)))
 
   -- and where its words are natural numbers, the other way.
   pub names-says : (t m : ℕ) → Natural u k → names (useAt u k) t m ≡ true → Names u t m k

@@ -31,7 +31,9 @@ module _ (a b : Buffer) where
   pub collides-of : Colliding a b → collides a b ≡ true
   unfolding collides liveTogether shareByte
   collides-of c =
-      rw (lt-ltb 0 (a .length) (c .a-nonempty), lt-ltb 0 (b .length) (c .b-nonempty), le-leb (a .first .0) (b .last .0) (c .a-begun), le-leb (b .first .0) (a .last .0) (c .b-begun), lt-ltb (a .offset .0) (end b) (c .a-below), lt-ltb (b .offset .0) (end a) (c .b-below))
+      both-hold _ _ (both-hold _ _ (lt-ltb 0 (a .length) (c .a-nonempty)) (lt-ltb 0 (b .length) (c .b-nonempty)))
+      (both-hold _ _ (both-hold _ _ (le-leb (a .first .0) (b .last .0) (c .a-begun)) (le-leb (b .first .0) (a .last .0) (c .b-begun)))
+      (both-hold _ _ (lt-ltb (b .offset .0) (end a) (c .b-below)) (lt-ltb (a .offset .0) (end b) (c .a-below))))
 
   -- and says so where it holds.
   pub collides-says : collides a b ≡ true → Colliding a b
