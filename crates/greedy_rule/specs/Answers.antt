@@ -10,7 +10,7 @@ use borrow.Author.Tests.{ltb-false, lt-ltb, le-ltb}
 use lib.IntN.{ℤ}
 use Rattle.answer.specs.Answer.{numberOf, doneWith, refusedPair, refusedNeed, fixedRowsCollide, needExceedsSpace}
 use Rattle.bounded.specs.Boolean.{both, both-hold, contrary, lt-or-le}
-use Rattle.bounded.specs.Causes.{NoneHolds, AllRefuse, firstCause, follows, follows-more, passed, refused-stands}
+use Rattle.bounded.specs.Causes.{Gives, given, NoneHolds, AllRefuse, firstCause, follows, follows-more, passed, refused-stands}
 use Rattle.bounded.specs.Lowest.{LeastPair, least-of}
 use Rattle.bounded.specs.Pair.{pairBelow, pairFirst, pairSecond, no-pair, none-paired}
 use Rattle.request_table.specs.Buffers.{bufferAt}
@@ -80,7 +80,9 @@ module _ (g : ℕ) (t : List ℤ) where
           → refusedPair fixedRowsCollide (pairFirst (fixedCollide g t) (rows t)) (pairSecond (fixedCollide g t) (rows t)) ≡ planOf g t space room
       unfolding planOf
       pair-refused c e =
-          sym (follows-more (tableCauses g t space room) (ownCauses g t space) (doneAnswer g t) (none-refuses t room g space c) ∙ rw (e, firstCause))
+          let clash = refusedPair fixedRowsCollide (pairFirst (fixedCollide g t) (rows t)) (pairSecond (fixedCollide g t) (rows t)) in
+          let told : Gives (ownCauses g t space) (doneAnswer g t) clash = given e in
+          told .gives ∙ sym (follows-more (tableCauses g t space room) (ownCauses g t space) (doneAnswer g t) (none-refuses t room g space c))
 
       -- and where there are none, the need decides.
       pub need-decides : Checked g t space room → pairBelow (fixedCollide g t) (rows t) ≡ false → fitOf g t space ≡ planOf g t space room

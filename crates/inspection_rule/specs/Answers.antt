@@ -9,7 +9,7 @@ use lib.IntN.{ℤ}
 use lib.ListN.{length}
 use Rattle.answer.specs.declared.Answer.{Answer}
 use Rattle.answer.specs.Answer.{numberOf, doneWith, refusedAt, refusedPair, refusedNeed, needExceedsSpace, fixedRowMoved, badOffset, rowsCollide}
-use Rattle.bounded.specs.Causes.{NoneHolds, AllRefuse, firstCause, follows, follows-more, passed, refused-stands}
+use Rattle.bounded.specs.Causes.{Gives, given, NoneHolds, AllRefuse, firstCause, follows, follows-more, passed, refused-stands}
 use Rattle.bounded.specs.First.{firstIn, holdsBelow}
 use Rattle.bounded.specs.Pair.{pairBelow, pairFirst, pairSecond}
 use Rattle.request_table.specs.CheckLaws.{Checked, none-refuses}
@@ -40,7 +40,9 @@ module _ (g : ℕ) (t : List ℤ) (space : ℕ) (o : List ℤ) where
   -- Past them, a fixed row that was moved is told whatever else holds,
   pub moved-refused : firstIn (moved t o) 0 (rows t) < rows t → refusedAt fixedRowMoved (firstIn (moved t o) 0 (rows t)) ≡ proposalOf g t space o
   unfolding proposalOf holdsBelow
-  moved-refused l = rw (lt-ltb _ _ l, firstCause)
+  moved-refused l =
+      let told : Gives (ownCauses g t space o) (acceptedAnswer g t o) (refusedAt fixedRowMoved (firstIn (moved t o) 0 (rows t))) = given (lt-ltb _ _ l) in
+      told .gives
 
   -- then an offset off the grid, whatever the need,
   pub grid-refused : rows t ≤ firstIn (moved t o) 0 (rows t) → firstIn (offGrid g o) 0 (rows t) < rows t
@@ -51,7 +53,9 @@ module _ (g : ℕ) (t : List ℤ) (space : ℕ) (o : List ℤ) where
   -- then a need that exceeds the space, whether rows collide or not.
   pub need-refused : space < proposedNeed g t o → refusedNeed needExceedsSpace (proposedNeed g t o) ≡ placedOf g t space o
   unfolding placedOf
-  need-refused l = rw (lt-ltb _ _ l, firstCause)
+  need-refused l =
+      let told : Gives (planCauses g t space o) (acceptedAnswer g t o) (refusedNeed needExceedsSpace (proposedNeed g t o)) = given (lt-ltb _ _ l) in
+      told .gives
 
   -- ---- what decides where a cause does not hold
 
