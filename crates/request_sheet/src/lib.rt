@@ -9,7 +9,7 @@ ghost use lib.ListN.{length};
 ghost use Rattle.text_rule.specs.Text.{greatestText};
 ghost use Rattle.request_table.specs.Limits.{greatestRows};
 ghost use Rattle.request_table.specs.Table.{rows};
-ghost use Rattle.shape_rule.specs.ShapeTable.{shapes as shapesIn};
+ghost use Rattle.shape_rule.specs.ShapeTable.{shapeCount};
 ghost use Rattle.reply_rule.specs.Replies.{Stands};
 ghost use Rattle.reply_rule.specs.Reply.{tableText, shapesText, replyOf, textAfter};
 use answer::Answer;
@@ -56,7 +56,7 @@ fn write_plan(requests: &[i32], space: u32, text: &mut [u8]) -> usize
 
 // Plans the requests that good shapes make, or writes the refusal of the first bad one. Gives how many bytes were written.
 fn write_shapes(shapes: &[i32], space: u32, text: &mut [u8]) -> usize
-    requires { ⌜ (length (now shapes) % 13 ≡ 0) × (shapesIn (now shapes) ≤ greatestRows) × (greatestText ≤ length (now text)) ⌝ }
+    requires { ⌜ (length (now shapes) % 13 ≡ 0) × (shapeCount (now shapes) ≤ greatestRows) × (greatestText ≤ length (now text)) ⌝ }
     ensures { λ r. ⌜ Stands (shapesText (now (shapes .entry)) space) (now (text .entry)) (now (text .exit)) r ⌝ }
 {
     let entries = shapes.len() / SHAPE_WORDS * ROW_WORDS;

@@ -17,14 +17,14 @@ use Rattle.bounded.specs.Replaced.{replaced}
 use Rattle.request_table.specs.Limits.{greatestRows, greatestSpace}
 use Rattle.tensor_sizes.specs.ByteSize.{greatestDimensions, byteSizeOf}
 use Rattle.tensor_sizes.specs.SizeOutcomes.{need-within}
-use Rattle.shape_rule.specs.ShapeTable.{shapes, shapeWord, typeCode, dimensionCount, dimensions, tensorSize, badShape}
+use Rattle.shape_rule.specs.ShapeTable.{shapeCount, shapeWord, typeCode, dimensionCount, dimensions, tensorSize, badShape}
 use Rattle.shape_rule.specs.Sized.{requestWord, requestEntry, lengthCauses, shapeCauses, lengthsOf, shapesOf, sizedOf, finalRequests}
 
 -- What lets the tables' lengths pass.
 pub record Fitting (t : List ℤ) (room : ℕ) : Type 0 where
   pub whole : length t % 13 ≡ 0
-  pub few : shapes t ≤ greatestRows
-  pub roomy : shapes t * 4 ≤ room
+  pub few : shapeCount t ≤ greatestRows
+  pub roomy : shapeCount t * 4 ≤ room
 
 -- A shape is bad where it is refused,
 pub bad-of : (t : List ℤ) (r : ℕ) → (tensorSize t r .number ≡ 0 → ⊥) → badShape t r ≡ true
@@ -69,16 +69,16 @@ module _ (t : List ℤ) (r : ℕ) where
 
 -- ---- the shapes
 
-module _ (t : List ℤ) {r : ℕ} (first : r ≡ firstIn (badShape t) 0 (shapes t)) where
+module _ (t : List ℤ) {r : ℕ} (first : r ≡ firstIn (badShape t) 0 (shapeCount t)) where
   -- The first bad one is told,
-  pub shape-refused : r < shapes t → refusedAt (tensorSize t r .number) r ≡ shapesOf t
+  pub shape-refused : r < shapeCount t → refusedAt (tensorSize t r .number) r ≡ shapesOf t
   unfolding shapesOf holdsBelow
   shape-refused l =
       let told : Gives (shapeCauses t) (doneWith 0) _ = given (lt-ltb _ _ (rw first at l)) in
       ap (λ (k : ℕ). refusedAt (tensorSize t k .number) k) first ∙ told .gives
 
   -- and where there is none, they pass.
-  pub shapes-passed : shapes t ≤ r → doneWith 0 ≡ shapesOf t
+  pub shapes-passed : shapeCount t ≤ r → doneWith 0 ≡ shapesOf t
   unfolding shapesOf holdsBelow
   shapes-passed l = let told : Gives (shapeCauses t) (doneWith 0) (doneWith 0) = next (le-ltb _ _ (rw first at l)) none-left in told .gives
 
@@ -116,7 +116,7 @@ module _ (t : List ℤ) (room : ℕ) where
 
 module _ (t requests : List ℤ) where
   -- Done: the rows stand in the first entries.
-  pub done-requests : sizedOf t (length requests) .number ≡ 0 → finalRequests t requests ≡ replaced (requestEntry t) (shapes t * 4) requests
+  pub done-requests : sizedOf t (length requests) .number ≡ 0 → finalRequests t requests ≡ replaced (requestEntry t) (shapeCount t * 4) requests
   unfolding finalRequests
   done-requests e = rw (eq-eqb _ _ e, finalRequests)
 

@@ -22,7 +22,7 @@ use Rattle.tensor_sizes.specs.ByteSize.{byteSizeOf}
 use Rattle.words.specs.WordOrders.{lt-of}
 use Rattle.words.specs.Words.{natural}
 use Rattle.shape_rule.specs.ShapeAnswers.{Fitting, bad-of, good-of, many-dimensions, few-dimensions, shape-refused, shapes-passed, lengths-given, lengths-stand, shapes-decide}
-use Rattle.shape_rule.specs.ShapeTable.{shapes, shapeWord, dimensionCount, tensorSize, badShape}
+use Rattle.shape_rule.specs.ShapeTable.{shapeCount, shapeWord, dimensionCount, tensorSize, badShape}
 use Rattle.shape_rule.specs.Sized.{lengthsOf, shapesOf, sizedOf}
 
 -- ---- a row
@@ -55,16 +55,16 @@ module _ (t : List ℤ) (room : ℕ) where
   -- What the answer may be.
   pub data SizedOutcome : Type 0 where
     not-whole : (length t % 13 ≡ 0 → ⊥) → sizedOf t room ≡ refused notWholeRows → SizedOutcome
-    too-many : length t % 13 ≡ 0 → greatestRows < shapes t → sizedOf t room ≡ refused tooMany → SizedOutcome
-    too-short : length t % 13 ≡ 0 → shapes t ≤ greatestRows → room < shapes t * 4 → sizedOf t room ≡ refused tableTooShort → SizedOutcome
-    bad-shape : (a : ℕ) → Fitting t room → Lowest (λ r. tensorSize t r .number ≡ 0 → ⊥) (shapes t) a
+    too-many : length t % 13 ≡ 0 → greatestRows < shapeCount t → sizedOf t room ≡ refused tooMany → SizedOutcome
+    too-short : length t % 13 ≡ 0 → shapeCount t ≤ greatestRows → room < shapeCount t * 4 → sizedOf t room ≡ refused tableTooShort → SizedOutcome
+    bad-shape : (a : ℕ) → Fitting t room → Lowest (λ r. tensorSize t r .number ≡ 0 → ⊥) (shapeCount t) a
         → sizedOf t room ≡ refusedAt (tensorSize t a .number) a → SizedOutcome
-    sized : Fitting t room → ((r : ℕ) → r < shapes t → tensorSize t r .number ≡ 0) → sizedOf t room ≡ doneWith 0 → SizedOutcome
+    sized : Fitting t room → ((r : ℕ) → r < shapeCount t → tensorSize t r .number ≡ 0) → sizedOf t room ≡ doneWith 0 → SizedOutcome
 
 -- The shapes alone: the lowest bad one, or none.
 pub data ShapesOutcome (t : List ℤ) : Type 0 where
-  lowest-bad : (a : ℕ) → Lowest (λ r. tensorSize t r .number ≡ 0 → ⊥) (shapes t) a → shapesOf t ≡ refusedAt (tensorSize t a .number) a → ShapesOutcome t
-  all-good : ((r : ℕ) → r < shapes t → tensorSize t r .number ≡ 0) → shapesOf t ≡ doneWith 0 → ShapesOutcome t
+  lowest-bad : (a : ℕ) → Lowest (λ r. tensorSize t r .number ≡ 0 → ⊥) (shapeCount t) a → shapesOf t ≡ refusedAt (tensorSize t a .number) a → ShapesOutcome t
+  all-good : ((r : ℕ) → r < shapeCount t → tensorSize t r .number ≡ 0) → shapesOf t ≡ doneWith 0 → ShapesOutcome t
 
 bad-says : (t : List ℤ) (r : ℕ) → badShape t r ≡ true → tensorSize t r .number ≡ 0 → ⊥
 bad-says t r e z = contrary e (good-of t r z)
@@ -75,24 +75,24 @@ good-says t r e = eqb-true _ _ (not-false _ e)
 
 -- So they are judged.
 pub shapes-outcome : (t : List ℤ) → ShapesOutcome t
-shapes-outcome t = go (holdsBelow (badShape t) (shapes t)) refl
+shapes-outcome t = go (holdsBelow (badShape t) (shapeCount t)) refl
   where
-    go : (b : Bool) → holdsBelow (badShape t) (shapes t) ≡ b → ShapesOutcome t
+    go : (b : Bool) → holdsBelow (badShape t) (shapeCount t) ≡ b → ShapesOutcome t
     go true e =
-        lowest-bad _ (lowest-of (badShape t) (shapes t) (λ r m. bad-says t r) (λ r m f. bad-of t r f) e)
-        (sym (shape-refused t refl (found (badShape t) (shapes t) e .0)))
+        lowest-bad _ (lowest-of (badShape t) (shapeCount t) (λ r m. bad-says t r) (λ r m f. bad-of t r f) e)
+        (sym (shape-refused t refl (found (badShape t) (shapeCount t) e .0)))
     go false e =
-        let none = none-holds (badShape t) (shapes t) e in
-        all-good (λ r l. good-says t r (none r l)) (sym (shapes-passed t refl (omega (arith, first-none (badShape t) (shapes t) none))))
+        let none = none-holds (badShape t) (shapeCount t) e in
+        all-good (λ r l. good-says t r (none r l)) (sym (shapes-passed t refl (omega (arith, first-none (badShape t) (shapeCount t) none))))
 
 -- So a table is answered.
 pub sized-outcome : (t : List ℤ) (room : ℕ) → SizedOutcome t room
-sized-outcome t room = go (same-or-not (length t % 13) 0) (lt-or-le greatestRows (shapes t)) (lt-or-le room (shapes t * 4)) (shapes-outcome t)
+sized-outcome t room = go (same-or-not (length t % 13) 0) (lt-or-le greatestRows (shapeCount t)) (lt-or-le room (shapeCount t * 4)) (shapes-outcome t)
   where
     stands : (x : Answer) → (x .number ≡ 0 → ⊥) → x ≡ lengthsOf t room → sizedOf t room ≡ x
     stands x f e = sym (e ∙ lengths-stand t room (λ z. f (ap (λ (y : Answer). y .number) e ∙ z)))
 
-    go : (length t % 13 ≡ 0) ⊎ (length t % 13 ≡ 0 → ⊥) → (greatestRows < shapes t) ⊎ (shapes t ≤ greatestRows) → (room < shapes t * 4) ⊎ (shapes t * 4 ≤ room)
+    go : (length t % 13 ≡ 0) ⊎ (length t % 13 ≡ 0 → ⊥) → (greatestRows < shapeCount t) ⊎ (shapeCount t ≤ greatestRows) → (room < shapeCount t * 4) ⊎ (shapeCount t * 4 ≤ room)
         → ShapesOutcome t → SizedOutcome t room
     go (inr f) y z s = not-whole f (stands _ (λ e. omega arith) (lengths-given t room (given (ap not (ne-eqb _ _ f)))))
     go (inl e) (inl l) z s = too-many e l (stands _ (λ e. omega arith) (lengths-given t room (next (ap not (eq-eqb _ _ e)) (given (lt-ltb _ _ l)))))

@@ -14,8 +14,8 @@ use Rattle.words.specs.Rows.{rowsOf, wordOf}
 use Rattle.words.specs.Words.{natural}
 
 -- How many whole rows the table has.
-abbrev pub shapes : List ℤ → ℕ
-shapes t = rowsOf 13 t
+abbrev pub shapeCount : List ℤ → ℕ
+shapeCount t = rowsOf 13 t
 
 -- The word in a column of a row.
 abbrev pub shapeWord : List ℤ → ℕ → ℕ → ℤ

@@ -8,32 +8,32 @@ use lib.ListN.{length, take}
 use Rattle.bounded.specs.Listed.{from-length, from-at, replaced-front}
 use Rattle.request_table.specs.Table.{rows, word}
 use Rattle.shape_rule.specs.ShapeAnswers.{size-word, own-word, done-requests}
-use Rattle.shape_rule.specs.ShapeTable.{shapes, shapeWord, tensorSize}
+use Rattle.shape_rule.specs.ShapeTable.{shapeCount, shapeWord, tensorSize}
 use Rattle.shape_rule.specs.Sized.{requestWord, requestEntry, sizedTable, sizedOf, finalRequests}
 
 module _ (t : List ℤ) where
   -- It has four words for each shape,
-  pub sized-length : length (sizedTable t) ≡ shapes t * 4
+  pub sized-length : length (sizedTable t) ≡ shapeCount t * 4
   unfolding sizedTable
-  sized-length = from-length (requestEntry t) 0 (shapes t * 4)
+  sized-length = from-length (requestEntry t) 0 (shapeCount t * 4)
 
   -- so as many rows.
-  pub sized-rows : rows (sizedTable t) ≡ shapes t
+  pub sized-rows : rows (sizedTable t) ≡ shapeCount t
   sized-rows = omega (arith, sized-length)
 
   -- It is what a done call leaves in front of the lent table.
-  pub stored-rows : (requests : List ℤ) → sizedOf t (length requests) .number ≡ 0 → shapes t * 4 ≤ length requests
-      → take (shapes t * 4) (finalRequests t requests) ≡ sizedTable t
+  pub stored-rows : (requests : List ℤ) → sizedOf t (length requests) .number ≡ 0 → shapeCount t * 4 ≤ length requests
+      → take (shapeCount t * 4) (finalRequests t requests) ≡ sizedTable t
   unfolding sizedTable
-  stored-rows requests e l = ap (take (shapes t * 4)) (done-requests t requests e) ∙ replaced-front (requestEntry t) (shapes t * 4) requests (pos 0) l
+  stored-rows requests e l = ap (take (shapeCount t * 4)) (done-requests t requests e) ∙ replaced-front (requestEntry t) (shapeCount t * 4) requests (pos 0) l
 
-  module _ (r : ℕ) (l : r < shapes t) where
+  module _ (r : ℕ) (l : r < shapeCount t) where
     entry : (column : ℕ) → column < 4 → word (sizedTable t) r column ≡ requestWord t r column
     unfolding sizedTable
     entry column m =
         let row : (0 + (r * 4 + column)) / 4 ≡ r = omega arith in
         let place : (0 + (r * 4 + column)) % 4 ≡ column = omega arith in
-        from-at (requestEntry t) 0 (shapes t * 4) (r * 4 + column) (pos 0) (omega arith) ∙ ap₂ (requestWord t) row place
+        from-at (requestEntry t) 0 (shapeCount t * 4) (r * 4 + column) (pos 0) (omega arith) ∙ ap₂ (requestWord t) row place
 
     -- The first of a row's words is its size,
     pub sized-size : word (sizedTable t) r 0 ≡ pos (tensorSize t r .need)

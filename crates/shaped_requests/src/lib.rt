@@ -7,7 +7,7 @@ ghost use mathlib.Core.Path.{_≡_};
 ghost use lib.ListN.{length};
 ghost use Rattle.bounded.specs.Replaced.{replaced};
 ghost use Rattle.request_table.specs.Limits.{greatestRows};
-ghost use Rattle.shape_rule.specs.ShapeTable.{shapes as shapesIn, tensorSize};
+ghost use Rattle.shape_rule.specs.ShapeTable.{shapeCount, tensorSize};
 ghost use Rattle.shape_rule.specs.Sized.{requestWord, requestEntry, shapesOf, sizedOf, finalRequests};
 use answer::Answer;
 use request_table::ROW_WORDS;
@@ -24,7 +24,7 @@ const COLUMNS_ON: usize = SHAPE_WORDS - ROW_WORDS;
 
 // The byte size of a row's tensor, carried as the need, or its refusal.
 fn size_of_row(shapes: &[i32], row: Row) -> Answer
-    requires { ⌜ row .0 < shapesIn (now shapes) ⌝ }
+    requires { ⌜ row .0 < shapeCount (now shapes) ⌝ }
     ensures { λ r. ⌜ r ≡ tensorSize (now (shapes .entry)) (row .0) ⌝ }
 {
     let start = row.0 * SHAPE_WORDS;
@@ -40,7 +40,7 @@ fn size_of_row(shapes: &[i32], row: Row) -> Answer
 
 // The first bad shape, told by its own number with its row; done where there is none.
 fn judge(shapes: &[i32]) -> Answer
-    requires { ⌜ shapesIn (now shapes) ≤ greatestRows ⌝ }
+    requires { ⌜ shapeCount (now shapes) ≤ greatestRows ⌝ }
     ensures { λ r. ⌜ r ≡ shapesOf (now (shapes .entry)) ⌝ }
 {
     let n = shapes.len() / SHAPE_WORDS;
@@ -57,7 +57,7 @@ fn judge(shapes: &[i32]) -> Answer
 
 // The entry of that number in the request table.
 fn request_entry(shapes: &[i32], entry: usize) -> i32
-    requires { ⌜ entry < shapesIn (now shapes) * 4 ⌝ }
+    requires { ⌜ entry < shapeCount (now shapes) * 4 ⌝ }
     ensures { λ r. ⌜ r ≡ requestWord (now (shapes .entry)) (entry / 4) (entry % 4) ⌝ }
 {
     let row = Row(entry / ROW_WORDS);
@@ -71,8 +71,8 @@ fn request_entry(shapes: &[i32], entry: usize) -> i32
 
 // Stores the requests of all rows in the first entries of the table.
 fn store(shapes: &[i32], requests: &mut [i32])
-    requires { ⌜ (shapesIn (now shapes) ≤ greatestRows) × (shapesIn (now shapes) * 4 ≤ length (now requests)) ⌝ }
-    ensures { λ _. ⌜ now (requests .exit) ≡ replaced (requestEntry (now (shapes .entry))) (shapesIn (now (shapes .entry)) * 4) (now (requests .entry)) ⌝ }
+    requires { ⌜ (shapeCount (now shapes) ≤ greatestRows) × (shapeCount (now shapes) * 4 ≤ length (now requests)) ⌝ }
+    ensures { λ _. ⌜ now (requests .exit) ≡ replaced (requestEntry (now (shapes .entry))) (shapeCount (now (shapes .entry)) * 4) (now (requests .entry)) ⌝ }
 {
     let entries = shapes.len() / SHAPE_WORDS * ROW_WORDS;
     let mut entry = 0;

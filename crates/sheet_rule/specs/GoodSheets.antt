@@ -14,7 +14,7 @@ use Rattle.bounded.specs.Boolean.{both, both-hold, same-or-not}
 use Rattle.bounded.specs.Causes.{_⇒_, Gives, given, next, none-left, by-causes}
 use Rattle.request_table.specs.Limits.{greatestRows}
 use Rattle.request_table.specs.Table.{rows}
-use Rattle.shape_rule.specs.ShapeTable.{shapes as shapesIn}
+use Rattle.shape_rule.specs.ShapeTable.{shapeCount}
 use Rattle.word_lists.specs.WordsComeBack.{words-length}
 use Rattle.sheet_rule.specs.Sheet.{marked, version, rowCount, sheetSpace, rowWords, wordCount, sheetWords, sheetBytes, wellFormed, sheetCauses, sheetOf, wordsRead}
 use Rattle.sheet_rule.specs.declared.Sheet.{Sheet}
@@ -177,7 +177,7 @@ module _ (sheet : List ℕ) where
   rows-are v = omega (arith, words-are (request-words v))
 
   -- and so they have as a shape table, with nothing but whole rows.
-  pub shapes-are : version sheet ≡ 2 → (length (sheetWords sheet) % 13 ≡ 0) × (shapesIn (sheetWords sheet) ≡ rowCount sheet)
+  pub shapes-are : version sheet ≡ 2 → (length (sheetWords sheet) % 13 ≡ 0) × (shapeCount (sheetWords sheet) ≡ rowCount sheet)
   shapes-are v = let w = words-are (shape-words v) in (omega (arith, w), omega (arith, w))
 
   -- What was read tells the sheet: requests, that it is well formed and of version 1, with its words and its space;

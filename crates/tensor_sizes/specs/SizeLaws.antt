@@ -1,22 +1,20 @@
--- The answer as the code comes to it: the number of dimensions and the code, a dimension below 0, then the byte size. The code counts the elements up to
--- one more than the greatest size, so that no product wraps; that this decides the same is said last.
-use Prim.Native.Nat.{ℕ, zero, suc, _+_, _*_, _<_, _≤_, min}
+-- The answer as the code comes to it: the number of dimensions and the code, a dimension below 0, then the byte size; and what one dimension more adds.
+use Prim.Native.Nat.{ℕ, zero, suc, _+_, _*_, _<_, _≤_}
 use mathlib.Core.Bool.{Bool, true, false, _||_, or-false, or-true, or-assoc, true≢false}
 use mathlib.Core.List.{List, [], _∷_, _++_, map, map-append, prod, prod-append}
 use mathlib.Core.Logic.{⊎-elim}
 use mathlib.Core.Path.{_≡_, refl, sym, _∙_, ap}
-use native.Mathlib.Nat.{one-mul, mul-one, mul-assoc, mul-le-mul-left, le-of-suc-le-suc}
+use native.Mathlib.Nat.{one-mul, mul-one, mul-assoc, le-of-suc-le-suc}
 use native.Mathlib.Numerals.{add-one}
 use native.Mathlib.Omega.{arith}
-use borrow.Author.Tests.{lt-ltb, le-ltb, ltb-true, ne-eqb}
-use lib.Dec.{ltb}
+use borrow.Author.Tests.{le-ltb, ne-eqb}
 use lib.IntN.{ℤ, pos}
 use lib.ListN.{length, take}
 use lib.Seq.{take-suc}
 use lib.Signed.{ltZ}
 use Rattle.answer.specs.Answer.{doneWith, refusedAt, badRow}
 use Rattle.answer.specs.declared.Answer.{Answer}
-use Rattle.bounded.specs.Boolean.{lt-or-le, either, same-test}
+use Rattle.bounded.specs.Boolean.{either}
 use Rattle.bounded.specs.Causes.{Gives, given, next}
 use Rattle.words.specs.Words.{natural, wordAt}
 use Rattle.tensor_sizes.specs.ByteSize.{greatestDimensions, elementBytes, elements, hasNegative, dimensionCauses, sizeCauses, elementsSizeOf, byteSizeOf}
@@ -91,29 +89,3 @@ module _ (shape : List ℤ) (k : ℕ) (l : k < length shape) where
   -- and it may be below 0.
   pub negative-more : hasNegative (take (k + 1) shape) ≡ hasNegative (take k shape) || ltZ (wordAt shape k) (pos 0)
   negative-more = ap hasNegative one-more ∙ negative-behind (take k shape) (wordAt shape k)
-
--- ---- counting up to a cap
-
--- So many, each of one at least, are as many at least.
-no-fewer : (e b : ℕ) → 0 < b → e ≤ e * b
-no-fewer e b some = omega (arith, mul-le-mul-left e some)
-
--- A count that stops at the cap goes on as the whole count does.
-pub capped-more : (cap e d : ℕ) → min (min e cap * d) cap ≡ min (e * d) cap
-capped-more cap e zero = omega arith
-capped-more cap e (suc d) =
-    ⊎-elim (λ (l : e < cap). let q : min e cap ≡ e = omega arith in rw q) (λ (l : cap ≤ e). omega (arith, no-fewer (min e cap) (suc d) (omega arith), no-fewer e (suc d) (omega arith))) (lt-or-le e cap)
-
-module _ (high e b : ℕ) (some : 0 < b) where
-  passes : high < min e (high + 1) * b → high < e * b
-  passes h = ⊎-elim (λ (l : e < high + 1). let q : min e (high + 1) ≡ e = omega arith in rw q at h) (λ (l : high + 1 ≤ e). omega (arith, no-fewer e b some)) (lt-or-le e (high + 1))
-
-  -- The count that stops one above a limit is the whole count where it does not pass it,
-  pub capped-is : min e (high + 1) * b ≤ high → min e (high + 1) * b ≡ e * b
-  capped-is h = let q : min e (high + 1) ≡ e = omega (arith, no-fewer (min e (high + 1)) b some) in rw q
-
-  -- and passes it exactly where the whole count does.
-  pub capped-test : ltb high (min e (high + 1) * b) ≡ ltb high (e * b)
-  capped-test =
-      same-test _ _ (λ t. lt-ltb _ _ (passes (ltb-true _ _ t)))
-      (λ t. lt-ltb _ _ (⊎-elim (λ l. l) (λ l. absurd (omega (arith, capped-is l, ltb-true high (e * b) t))) (lt-or-le high (min e (high + 1) * b))))

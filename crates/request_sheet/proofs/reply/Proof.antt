@@ -14,7 +14,7 @@ use Rattle.word_lists.specs.WordsComeBack.{words-length}
 use Rattle.sheet_rule.specs.GoodSheets.{requests-say, shapes-say, bad-says, well-says, good-rows, rows-are, shapes-are}
 use Rattle.sheet_rule.specs.Sheet.{wellFormed, version, wordCount, sheetWords, sheetSpace}
 use Rattle.request_table.specs.Table.{rows}
-use Rattle.shape_rule.specs.ShapeTable.{shapes}
+use Rattle.shape_rule.specs.ShapeTable.{shapeCount}
 use Rattle.reply_rule.specs.Replies.{no-room, stands-as, reply-stands, table-reply, shapes-reply, bad-reply}
 use Rattle.reply_rule.specs.Reply.{tableText, shapesText}
 use Rattle.request_sheet.proofs.Writing.{written}
@@ -95,7 +95,7 @@ write-shapes-requires c κs =
     let s = said-shapes w in
     let all = lent-on r (s .0) (s .2) in
     let n = shapes-are (sheetAt r) (s .1) in
-    (rw all (n .0), omega (arith, ap shapes all, n .1, well-says (sheetAt r) (s .0) .good .few), r .before .before .before .if1 .left)
+    (rw all (n .0), omega (arith, ap shapeCount all, n .1, well-says (sheetAt r) (s .0) .good .few), r .before .before .before .if1 .left)
 
 enum-told : tie.Need-enum-told
 enum-told c = search needs

@@ -12,7 +12,7 @@ use Rattle.reply_rule.specs.Replies.{stands-as, shapes-refused, shapes-sized}
 use Rattle.reply_rule.specs.Reply.{tableText}
 use Rattle.request_table.specs.Table.{rows}
 use Rattle.shape_rule.specs.ShapeAnswers.{Fitting, shapes-decide}
-use Rattle.shape_rule.specs.ShapeTable.{shapes}
+use Rattle.shape_rule.specs.ShapeTable.{shapeCount}
 use Rattle.shape_rule.specs.Sized.{shapesOf, sizedTable}
 use Rattle.shape_rule.specs.SizedRows.{sized-length, sized-rows, stored-rows}
 use Rattle.text_rule.specs.Text.{refusedText, offsetIn}
@@ -31,13 +31,13 @@ judged c = c .from-shapes .ensures .0 ∙ sym (shapes-decide _ _ (fitting (c .be
 
 -- and of good ones the requests are lent on
 lent-on : (c : tie.Else1) → let f = c .before .before .before in let t = now (f .before .before .before .before .args .shapes) in
-    take (shapes t * 4) (f .from-shapes .last .1 .0) ≡ sizedTable t
+    take (shapeCount t * 4) (f .from-shapes .last .1 .0) ≡ sizedTable t
 lent-on c =
     let f = c .before .before .before in
     let t = now (f .before .before .before .before .args .shapes) in
     let zeros = f .before .before .no-requests .result in
     let e = f .from-shapes .ensures in
-    ap (λ (xs : List ℤ). take (shapes t * 4) xs) (e .1) ∙ stored-rows t zeros (sym (ap numberOf (e .0)) ∙ c .if1 .left) (fitting (f .before .before) .roomy)
+    ap (λ (xs : List ℤ). take (shapeCount t * 4) xs) (e .1) ∙ stored-rows t zeros (sym (ap numberOf (e .0)) ∙ c .if1 .left) (fitting (f .before .before) .roomy)
 
 mul-entries : tie.Need-mul-entries
 mul-entries c = search needs

@@ -7,7 +7,7 @@ use denote.Ref.{now}
 use lib.IntN.{ℤ}
 use lib.ListN.{length, set}
 use Rattle.bounded.specs.Replaced.{replaced, replaced-none, replaced-more, replaced-length}
-use Rattle.shape_rule.specs.ShapeTable.{shapes as shapesIn}
+use Rattle.shape_rule.specs.ShapeTable.{shapeCount}
 use Rattle.shape_rule.specs.Sized.{requestEntry}
 use Rattle.words.proofs.Signed.{read}
 use Rattle.shaped_requests.proofs.store.Statement.{statement}
@@ -57,7 +57,7 @@ returns : tie.Need-returns Inv-loop μ-loop
 returns c =
     let at = c .before in
     let s = at .before in
-    let e : at .loop .entry ≡ shapesIn (now (s .args .shapes)) * 4 = omega (arith, c .loop-test .left, at .loop .inv .1) in
+    let e : at .loop .entry ≡ shapeCount (now (s .args .shapes)) * 4 = omega (arith, c .loop-test .left, at .loop .inv .1) in
     at .loop .inv .0 ∙ rw e
 
 pub store-spec : {M : Type 1} → statement M

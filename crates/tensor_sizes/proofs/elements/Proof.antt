@@ -8,7 +8,8 @@ use lib.ListN.{length, take}
 use lib.Seq.{take-all}
 use Rattle.request_table.specs.Limits.{greatestSpace}
 use Rattle.tensor_sizes.specs.ByteSize.{elements as elementsOf}
-use Rattle.tensor_sizes.specs.SizeLaws.{no-elements, elements-more, capped-more}
+use Rattle.tensor_sizes.specs.Capped.{capped-more}
+use Rattle.tensor_sizes.specs.SizeLaws.{no-elements, elements-more}
 use Rattle.tensor_sizes.proofs.elements.Statement.{statement}
 use Rattle.tensor_sizes.proofs.elements.Tie as tie
 

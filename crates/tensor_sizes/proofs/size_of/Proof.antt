@@ -11,7 +11,8 @@ use Rattle.answer.specs.Answer.{doneWith}
 use Rattle.bounded.specs.Causes.{given, next, none-left}
 use Rattle.request_table.specs.Limits.{greatestSpace}
 use Rattle.tensor_sizes.specs.ByteSize.{elements}
-use Rattle.tensor_sizes.specs.SizeLaws.{elements-given, negative-told, capped-is, capped-test}
+use Rattle.tensor_sizes.specs.Capped.{capped-is, capped-test}
+use Rattle.tensor_sizes.specs.SizeLaws.{elements-given, negative-told}
 use Rattle.tensor_sizes.proofs.size_of.Statement.{statement}
 use Rattle.tensor_sizes.proofs.size_of.Tie as tie
 
