@@ -3,7 +3,7 @@ use Prim.Native.Nat.{ℕ, zero, suc, _+_, _*_, _%_, _<_, _≤_}
 use mathlib.Core.Bool.{Bool, true, false, not, _&&_}
 use mathlib.Core.List.{List, [], _∷_, _++_}
 use mathlib.Core.Logic.{_⊎_, inl, inr}
-use mathlib.Core.Path.{_≡_, refl, sym, _∙_, ap}
+use mathlib.Core.Path.{_≡_, refl, sym, _∙_, ap, subst}
 use native.Mathlib.Nat.{mul-assoc, mul-le-mul, mul-le-mul-right, le-of-mul-le-mul-right}
 use native.Mathlib.Omega.{arith}
 use borrow.Author.Tests.{eqb-true, eqb-false, eq-eqb, ne-eqb, leb-true, le-leb, not-true}
@@ -180,33 +180,36 @@ module _ (sheet : List ℕ) where
   pub shapes-are : version sheet ≡ 2 → (length (sheetWords sheet) % 13 ≡ 0) × (shapeCount (sheetWords sheet) ≡ rowCount sheet)
   shapes-are v = let w = words-are (shape-words v) in (omega (arith, w), omega (arith, w))
 
-  -- What was read tells the sheet: requests, that it is well formed and of version 1, with its words and its space;
-  pub requests-say : (count space : ℕ) → sheetOf sheet ≡ Requests count space
-      → (wellFormed sheet ≡ true) × (version sheet ≡ 1) × (count ≡ wordCount sheet) × (space ≡ sheetSpace sheet)
-  requests-say count space e = go (wellFormed sheet) refl (same-or-not (version sheet) 1)
-    where
-      go : (b : Bool) → wellFormed sheet ≡ b → (version sheet ≡ 1) ⊎ (version sheet ≡ 1 → ⊥)
-          → (wellFormed sheet ≡ true) × (version sheet ≡ 1) × (count ≡ wordCount sheet) × (space ≡ sheetSpace sheet)
-      go true w (inl v) = let r = requests-read w v in (w, v, (cc), (cc))
-      go true w (inr v) = let r = shapes-read w v in absurd (let z : _≡_ {A = ℕ} 0 1 = cc in omega arith)
-      go false w v = let r = bad-read w in absurd (let z : _≡_ {A = ℕ} 0 1 = cc in omega arith)
+  -- What a sheet is read as tells what it is.
+  pub data ReadAs : Sheet → Type 0 where
+    bad : wellFormed sheet ≡ false → ReadAs Bad
+    of-requests : wellFormed sheet ≡ true → version sheet ≡ 1 → ReadAs (Requests (wordCount sheet) (sheetSpace sheet))
+    of-shapes : wellFormed sheet ≡ true → version sheet ≡ 2 → ReadAs (Shapes (wordCount sheet) (sheetSpace sheet))
 
-  -- shapes, that it is well formed and of version 2;
-  pub shapes-say : (count space : ℕ) → sheetOf sheet ≡ Shapes count space
-      → (wellFormed sheet ≡ true) × (version sheet ≡ 2) × (count ≡ wordCount sheet) × (space ≡ sheetSpace sheet)
-  shapes-say count space e = go (wellFormed sheet) refl (same-or-not (version sheet) 1)
+  -- So every sheet is read.
+  pub read-as : ReadAs (sheetOf sheet)
+  read-as = go (wellFormed sheet) refl (same-or-not (version sheet) 1)
     where
-      go : (b : Bool) → wellFormed sheet ≡ b → (version sheet ≡ 1) ⊎ (version sheet ≡ 1 → ⊥)
-          → (wellFormed sheet ≡ true) × (version sheet ≡ 2) × (count ≡ wordCount sheet) × (space ≡ sheetSpace sheet)
-      go true w (inl v) = let r = requests-read w v in absurd (let z : _≡_ {A = ℕ} 0 1 = cc in omega arith)
-      go true w (inr v) = let r = shapes-read w v in (w, second w v, (cc), (cc))
-      go false w v = let r = bad-read w in absurd (let z : _≡_ {A = ℕ} 0 1 = cc in omega arith)
+      go : (b : Bool) → wellFormed sheet ≡ b → (version sheet ≡ 1) ⊎ (version sheet ≡ 1 → ⊥) → ReadAs (sheetOf sheet)
+      go true w (inl v) = subst ReadAs (requests-read w v) (of-requests w v)
+      go true w (inr v) = subst ReadAs (shapes-read w v) (of-shapes w (second w v))
+      go false w v = subst ReadAs (bad-read w) (bad w)
 
-  -- nothing, that it is not well formed.
-  pub bad-says : sheetOf sheet ≡ Bad → wellFormed sheet ≡ false
-  bad-says e = go (wellFormed sheet) refl (same-or-not (version sheet) 1)
-    where
-      go : (b : Bool) → wellFormed sheet ≡ b → (version sheet ≡ 1) ⊎ (version sheet ≡ 1 → ⊥) → wellFormed sheet ≡ false
-      go true w (inl v) = let r = requests-read w v in absurd (let z : _≡_ {A = ℕ} 0 1 = cc in omega arith)
-      go true w (inr v) = let r = shapes-read w v in absurd (let z : _≡_ {A = ℕ} 0 1 = cc in omega arith)
-      go false w v = w
+  -- A table that was read is that of a well-formed sheet of its version, with its words and its space.
+  pub record Table (number count space : ℕ) : Type 0 where
+    pub well : wellFormed sheet ≡ true
+    pub of-version : version sheet ≡ number
+    pub counted : count ≡ wordCount sheet
+    pub spaced : space ≡ sheetSpace sheet
+
+  -- Requests are those of version 1,
+  pub requests-say : {count space : ℕ} → ReadAs (Requests count space) → Table 1 count space
+  requests-say (of-requests w v) = record { well = w; of-version = v; counted = refl; spaced = refl }
+
+  -- shapes those of version 2,
+  pub shapes-say : {count space : ℕ} → ReadAs (Shapes count space) → Table 2 count space
+  shapes-say (of-shapes w v) = record { well = w; of-version = v; counted = refl; spaced = refl }
+
+  -- and where nothing was read the sheet is not well formed.
+  pub bad-says : ReadAs Bad → wellFormed sheet ≡ false
+  bad-says (bad w) = w
