@@ -93,12 +93,7 @@ module _ (t o s : List ℤ) (room : ℕ) where
   shape-none : Sized t o s room → NoneHolds (shapeCauses t (length o))
   shape-none z = (ap not (eq-eqb _ _ (z .whole)), (le-ltb _ _ (z .few), (le-ltb _ _ (z .proposed-all), tt)))
 
-  -- What the checks 1 to 3 give, as the code goes through them, is their answer.
-  pub lengths-given : {x : Answer} → Gives (lengthCauses t o s room) (doneWith 0) x → x ≡ lengthsOf t o s room
-  unfolding lengthsOf
-  lengths-given g = g .gives
-
-  -- They pass: the lengths are as they must be.
+  -- The checks 1 to 3 pass: the lengths are as they must be.
   pub lengths-passed : lengthsOf t o s room .number ≡ 0 → Sized t o s room
   unfolding lengthsOf
   lengths-passed e = sized-of (passed numberOf (lengthCauses t o s room) (doneWith 0) length-refuses e .0)

@@ -89,14 +89,5 @@ pub fn check_lengths(requests: &[i32], offsets: &[i32], accesses: &[i32], room: 
         | (accesses.len() % ACCESS_WORDS != 0);
     let too_many = (request_table::GREATEST_ROWS < rows) | (GREATEST_ACCESSES < count);
     let too_short = (offsets.len() < rows) | (room < count);
-    if ragged {
-        return Answer::refused(Answer::NOT_WHOLE_ROWS);
-    }
-    if too_many {
-        return Answer::refused(Answer::TOO_MANY);
-    }
-    if too_short {
-        return Answer::refused(Answer::TABLE_TOO_SHORT);
-    }
-    Answer::done(0)
+    length_checks::check(ragged, too_many, too_short)
 }

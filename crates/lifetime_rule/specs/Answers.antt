@@ -9,7 +9,7 @@ use borrow.Author.Tests.{ltb-false, le-ltb, lt-ltb, eqb-true, eqb-false, eq-eqb,
 use lib.Dec.{ltb, eqb}
 use lib.IntN.{ℤ}
 use lib.ListN.{length}
-use Rattle.answer.specs.Answer.{numberOf, refused, refusedAt, doneWith, badRow, tensorNeverNamed, readBeforeWritten}
+use Rattle.answer.specs.Answer.{numberOf, refusedAt, doneWith, badRow, tensorNeverNamed, readBeforeWritten}
 use Rattle.answer.specs.declared.Answer.{Answer}
 use Rattle.bounded.specs.Boolean.{neither, neither-holds}
 use Rattle.bounded.specs.Causes.{Gives, given, next, none-left, NoneHolds, AllRefuse, firstCause, follows-more, passed, refused-stands}
@@ -53,14 +53,6 @@ module _ (operators tensors : ℕ) (u : List ℤ) where
   limits-of a b c d =
       neither-holds (ltb greatestUses (count u) || ltb greatestOperators operators) (ltb greatestTensors tensors || eqb operators 0)
       (neither-holds _ _ (le-ltb _ _ a) (le-ltb _ _ b)) (neither-holds _ _ (le-ltb _ _ c) (ne-eqb operators 0 (omega arith)))
-
--- ---- the checks 1, 2 and 3, as the code goes through them
-
-module _ (operators tensors : ℕ) (u : List ℤ) (room : ℕ) where
-  -- What is given is their answer.
-  pub sizes-given : {x : Answer} → Gives (sizeCauses operators tensors u room) (doneWith 0) x → x ≡ sizesOf operators tensors u room
-  unfolding sizesOf
-  sizes-given g = g .gives
 
 -- ---- the checks 20 and 21, as the code goes through them
 

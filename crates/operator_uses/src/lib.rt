@@ -23,16 +23,7 @@ fn check_sizes(operators: u32, tensors: u32, uses: &[i32], room: usize) -> Answe
     let many = (GREATEST_USES < count) | (GREATEST_OPERATORS < operators);
     let out_of_limits = many | ((GREATEST_TENSORS < tensors as usize) | (operators == 0));
     let too_short = room < tensors as usize * LIFETIME_WORDS;
-    if ragged {
-        return Answer::refused(Answer::NOT_WHOLE_ROWS);
-    }
-    if out_of_limits {
-        return Answer::refused(Answer::TOO_MANY);
-    }
-    if too_short {
-        return Answer::refused(Answer::TABLE_TOO_SHORT);
-    }
-    Answer::done(0)
+    length_checks::check(ragged, out_of_limits, too_short)
 }
 
 // The checks 1, 2, 3 and 5, in their order, of an operator list and a table of lifetimes with this room: a refusal, or done.

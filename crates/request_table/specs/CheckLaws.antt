@@ -47,11 +47,6 @@ module _ (g : ℕ) (t : List ℤ) (space : ℕ) where
   content-passed s l = content-given (next (le-ltb _ _ s) (next (le-ltb _ _ l) none-left))
 
 module _ (t : List ℤ) (room : ℕ) where
-  -- What the checks 1 to 3 give, as the code goes through them, is their answer.
-  pub shape-given : {x : Answer} → Gives (shapeCauses t room) (doneWith 0) x → x ≡ shapeOf t room
-  unfolding shapeOf
-  shape-given g = g .gives
-
   shape-refuses : AllRefuse numberOf (shapeCauses t room)
   shape-refuses = (omega arith, (omega arith, (omega arith, tt)))
 

@@ -17,17 +17,9 @@ pub const GRID: u32 = 16;
 fn check_shape(table: &[i32], room: usize) -> Answer
     ensures { λ r. ⌜ r ≡ shapeOf (now (table .entry)) room ⌝ }
 {
-    if table.len() % ROW_WORDS != 0 {
-        return Answer::refused(Answer::NOT_WHOLE_ROWS);
-    }
     let n = table.len() / ROW_WORDS;
-    if GREATEST_ROWS < n {
-        return Answer::refused(Answer::TOO_MANY);
-    }
-    if room < n {
-        return Answer::refused(Answer::TABLE_TOO_SHORT);
-    }
-    Answer::done(0)
+    let ragged = table.len() % ROW_WORDS != 0;
+    length_checks::check(ragged, GREATEST_ROWS < n, room < n)
 }
 
 // The checks 4 and 5: the space, which is told with no place, and the rows.

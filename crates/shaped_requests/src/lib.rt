@@ -1,15 +1,14 @@
 // A request table from a table of shapes (document 02, order 1): thirteen words a row, type code, number of dimensions, eight dimensions, first, last and
 // offset. Each row's size is its shape's; its first, last and offset are taken as they are, and judged by whoever plans the requests.
-mod lengths;
-
 ghost use Prim.Native.Nat.{_*_, _/_, _%_, _≤_, _<_};
 ghost use mathlib.Core.Path.{_≡_};
 ghost use lib.ListN.{length};
 ghost use Rattle.bounded.specs.Replaced.{replaced};
 ghost use Rattle.request_table.specs.Limits.{greatestRows};
 ghost use Rattle.shape_rule.specs.ShapeTable.{shapeCount, tensorSize};
-ghost use Rattle.shape_rule.specs.Sized.{requestWord, requestEntry, shapesOf, sizedOf, finalRequests};
+ghost use Rattle.shape_rule.specs.Sized.{requestWord, requestEntry, lengthsOf, shapesOf, sizedOf, finalRequests};
 use answer::Answer;
+use request_table::GREATEST_ROWS;
 use request_table::ROW_WORDS;
 use shape_rule::SHAPE_WORDS;
 use tensor_sizes::GREATEST_DIMENSIONS;
@@ -82,13 +81,22 @@ fn store(shapes: &[i32], requests: &mut [i32])
     }
 }
 
+// The checks 1 to 3: the tables' lengths.
+fn check_lengths(shapes: &[i32], room: usize) -> Answer
+    ensures { λ r. ⌜ r ≡ lengthsOf (now (shapes .entry)) room ⌝ }
+{
+    let n = shapes.len() / SHAPE_WORDS;
+    let ragged = shapes.len() % SHAPE_WORDS != 0;
+    length_checks::check(ragged, GREATEST_ROWS < n, room < n * ROW_WORDS)
+}
+
 // The request table of a shape table. Refused: 1, 2 and 3 for the lengths, then the first bad shape by its own number, with its row, and nothing changes;
 // done: all zeros, and the requests in the first entries of `requests`, four each.
 pub fn from_shapes(shapes: &[i32], requests: &mut [i32]) -> Answer
     ensures answer { λ r. ⌜ r ≡ sizedOf (now (shapes .entry)) (length (now (requests .entry))) ⌝ }
     ensures table { λ _. ⌜ now (requests .exit) ≡ finalRequests (now (shapes .entry)) (now (requests .entry)) ⌝ }
 {
-    let checked = lengths::check_lengths(shapes, requests.len());
+    let checked = check_lengths(shapes, requests.len());
     if checked.number != Answer::DONE {
         return checked;
     }

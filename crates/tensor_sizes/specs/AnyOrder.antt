@@ -1,7 +1,7 @@
 -- Law: the order of the dimensions does not matter. Shapes that are the same but for the order of their dimensions get the same answer, refusals too.
 use Prim.Native.Nat.{ℕ, suc, _*_}
 use mathlib.Core.Bool.{Bool, true, false, _||_, Bool-set}
-use mathlib.Core.List.{List, [], _∷_, foldr, map, prod, Perm, Perm·map, Perm·foldr-eq}
+use mathlib.Core.List.{List, [], _∷_, foldr, prod, Perm, Perm·map, Perm·foldr-eq}
 use mathlib.Core.Path.{_≡_, refl, sym, _∙_, ap}
 use native.Mathlib.Nat.{ℕ-set, mul-left-comm}
 use lib.IntN.{ℤ, pos}

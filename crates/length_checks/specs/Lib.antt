@@ -1,0 +1,2 @@
+pub mod LengthChecks
+pub mod LengthAnswers
