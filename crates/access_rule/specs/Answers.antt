@@ -37,7 +37,7 @@ pub record Sized (t o s : List ℤ) (room : ℕ) : Type 0 where
 module _ (t : List ℤ) (space : ℕ) (s : List ℤ) (held : ℕ) where
   last-given : {x : Answer} → Gives (lastCauses t space s held) (doneWith 0) x → x ≡ touchesOf t space s held
   unfolding touchesOf
-  last-given g = g .gives
+  last-given g = g .is
 
   -- The arena first,
   pub arena-refused : held < space → refused arenaTooShort ≡ touchesOf t space s held

@@ -36,20 +36,20 @@ AllRefuse number cs = AllGive (λ a. number a ≡ 0 → ⊥) cs
 
 -- A list gives an answer, as the code comes to it: one test after the other.
 pub record Gives {A : Type 0} (cs : List (Cause A)) (d x : A) : Type 0 where
-  pub gives : x ≡ firstCause cs d
+  pub is : x ≡ firstCause cs d
 
 module _ {A : Type 0} {cs : List (Cause A)} {d : A} {b : Bool} {x : A} where
   -- The first cause holds: its answer is given.
   pub given : b ≡ true → Gives ((b ⇒ x) ∷ cs) d x
-  given e = record { gives = rw (e, firstCause) }
+  given e = record { is = rw (e, firstCause) }
 
   -- It does not: the rest of the list decides.
   pub next : {y : A} → b ≡ false → Gives cs d y → Gives ((b ⇒ x) ∷ cs) d y
-  next e g = record { gives = rw (e, firstCause) (g .gives) }
+  next e g = record { is = rw (e, firstCause) (g .is) }
 
 -- No cause is left.
 pub none-left : {A : Type 0} {d : A} → Gives [] d d
-none-left = record { gives = refl }
+none-left = record { is = refl }
 
 module _ {A : Type 0} where
   -- No cause holds: what follows is the answer.

@@ -82,7 +82,7 @@ module _ (g : ℕ) (t : List ℤ) where
       pair-refused c e =
           let clash = refusedPair fixedRowsCollide (pairFirst (fixedCollide g t) (rows t)) (pairSecond (fixedCollide g t) (rows t)) in
           let told : Gives (ownCauses g t space) (doneAnswer g t) clash = given e in
-          told .gives ∙ sym (follows-more (tableCauses g t space room) (ownCauses g t space) (doneAnswer g t) (none-refuses t room g space c))
+          told .is ∙ sym (follows-more (tableCauses g t space room) (ownCauses g t space) (doneAnswer g t) (none-refuses t room g space c))
 
       -- and where there are none, the need decides.
       pub need-decides : Checked g t space room → pairBelow (fixedCollide g t) (rows t) ≡ false → fitOf g t space ≡ planOf g t space room

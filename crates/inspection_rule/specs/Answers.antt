@@ -42,7 +42,7 @@ module _ (g : ℕ) (t : List ℤ) (space : ℕ) (o : List ℤ) where
   unfolding proposalOf holdsBelow
   moved-refused l =
       let told : Gives (ownCauses g t space o) (acceptedAnswer g t o) (refusedAt fixedRowMoved (firstIn (moved t o) 0 (rows t))) = given (lt-ltb _ _ l) in
-      told .gives
+      told .is
 
   -- then an offset off the grid, whatever the need,
   pub grid-refused : rows t ≤ firstIn (moved t o) 0 (rows t) → firstIn (offGrid g o) 0 (rows t) < rows t
@@ -55,7 +55,7 @@ module _ (g : ℕ) (t : List ℤ) (space : ℕ) (o : List ℤ) where
   unfolding placedOf
   need-refused l =
       let told : Gives (planCauses g t space o) (acceptedAnswer g t o) (refusedNeed needExceedsSpace (proposedNeed g t o)) = given (lt-ltb _ _ l) in
-      told .gives
+      told .is
 
   -- ---- what decides where a cause does not hold
 

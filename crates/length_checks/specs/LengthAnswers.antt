@@ -29,4 +29,4 @@ none-told = refl
 -- What is given, as the code goes through the tests, is the answer.
 pub lengths-given : (ragged many short : Bool) {x : Answer} → Gives (lengthCauses ragged many short) (doneWith 0) x → x ≡ lengthsOf ragged many short
 unfolding lengthsOf
-lengths-given ragged many short g = g .gives
+lengths-given ragged many short g = g .is

@@ -58,7 +58,7 @@ module _ (operators tensors : ℕ) (u : List ℤ) where
 
 judged-given : (operators tensors : ℕ) (u : List ℤ) {x : Answer} → Gives (lifetimeCauses operators tensors u) (doneWith 0) x → x ≡ judgedOf operators tensors u
 unfolding judgedOf
-judged-given operators tensors u g = g .gives
+judged-given operators tensors u g = g .is
 
 module _ (operators tensors : ℕ) (u : List ℤ) {t : ℕ} (lowest-tensor : t ≡ firstIn (unnamed operators u) 0 tensors) where
   -- The lowest tensor never named first,
@@ -147,7 +147,7 @@ module _ (operators tensors : ℕ) (u : List ℤ) (room : ℕ) where
     use-refused l =
         let some = lt-ltb (firstIn (badUse operators tensors u) 0 (count u)) (count u) (omega (arith, lowest-use)) in
         let told : Gives (useCauses operators tensors u) (doneWith 0) (refusedAt badRow (firstIn (badUse operators tensors u) 0 (count u))) = given some in
-        ap (refusedAt badRow) lowest-use ∙ told .gives ∙ uses-follow
+        ap (refusedAt badRow) lowest-use ∙ told .is ∙ uses-follow
 
     -- and where there is none, the four pass.
     pub list-passed : count u ≤ k → doneWith 0 ≡ listOf operators tensors u room
@@ -155,7 +155,7 @@ module _ (operators tensors : ℕ) (u : List ℤ) (room : ℕ) where
     list-passed l =
         let none = le-ltb (firstIn (badUse operators tensors u) 0 (count u)) (count u) (omega (arith, lowest-use)) in
         let told : Gives (useCauses operators tensors u) (doneWith 0) (doneWith 0) = next none none-left in
-        told .gives ∙ uses-follow
+        told .is ∙ uses-follow
 
   -- They pass only so.
   pub listed : listOf operators tensors u room .number ≡ 0 → Sized operators tensors u room × EachGood operators tensors u

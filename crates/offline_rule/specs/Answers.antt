@@ -45,7 +45,7 @@ module _ (bytes : List ℕ) (tensors room : ℕ) where
   -- What is given, as the code goes through the checks, is the answer.
   pub read-given : {x : Answer} → Gives (readCauses bytes tensors room) (doneWith 0) x → x ≡ readOf bytes tensors room
   unfolding readOf
-  read-given g = g .gives
+  read-given g = g .is
 
   -- It is done only so,
   pub read-says : readOf bytes tensors room .number ≡ 0 → Readable bytes tensors room
@@ -92,7 +92,7 @@ module _ (offsets : List ℤ) (room : ℕ) where
   -- What is given, as the code goes through the checks, is the answer.
   pub write-given : {x : Answer} → Gives (writeCauses offsets room) (doneWith 0) x → x ≡ writeOf offsets room
   unfolding writeOf
-  write-given g = g .gives
+  write-given g = g .is
 
   -- It is done only so,
   pub write-says : writeOf offsets room .number ≡ 0 → Writable offsets room

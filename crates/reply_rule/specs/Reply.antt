@@ -1,6 +1,6 @@
 -- The reply to a request sheet (document 01): the program "prints the plan, or `refused N a b need`, or `bad sheet`". A sheet is planned as the table of
--- its rows in its space, with room for every row; one of version 2 (document 02, order 1) as the table that its shapes' sizes
--- make. The reading of a sheet (`sheet_bytes`) and the text of an answer (`plan_text`) meet here alone.
+-- its rows in its space, with room for every row; one of version 2 (document 02, order 1) as the table that its shapes' sizes make. What a sheet says
+-- (`sheet_rule`) and the text of an answer (`text_rule`) meet here alone.
 use Prim.Native.Nat.{ℕ}
 use mathlib.Core.Bool.{true, false, not}
 use mathlib.Core.List.{List, [], _∷_, _++_}

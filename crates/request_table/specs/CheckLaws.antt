@@ -30,7 +30,7 @@ pub record Checked (g : ℕ) (t : List ℤ) (space room : ℕ) : Type 0 where
 module _ (g : ℕ) (t : List ℤ) (space : ℕ) where
   content-given : {x : Answer} → Gives (contentCauses g t space) (doneWith 0) x → x ≡ contentOf g t space
   unfolding contentOf
-  content-given c = c .gives
+  content-given c = c .is
 
   -- The checks 4 and 5, as the code goes through them: the space first,
   pub space-refused : greatestSpace < space → refused spaceTooLarge ≡ contentOf g t space

@@ -75,12 +75,12 @@ module _ (t : List ℤ) {r : ℕ} (first : r ≡ firstIn (badShape t) 0 (shapeCo
   unfolding shapesOf holdsBelow
   shape-refused l =
       let told : Gives (shapeCauses t) (doneWith 0) _ = given (lt-ltb _ _ (rw first at l)) in
-      ap (λ (k : ℕ). refusedAt (tensorSize t k .number) k) first ∙ told .gives
+      ap (λ (k : ℕ). refusedAt (tensorSize t k .number) k) first ∙ told .is
 
   -- and where there is none, they pass.
   pub shapes-passed : shapeCount t ≤ r → doneWith 0 ≡ shapesOf t
   unfolding shapesOf holdsBelow
-  shapes-passed l = let told : Gives (shapeCauses t) (doneWith 0) (doneWith 0) = next (le-ltb _ _ (rw first at l)) none-left in told .gives
+  shapes-passed l = let told : Gives (shapeCauses t) (doneWith 0) (doneWith 0) = next (le-ltb _ _ (rw first at l)) none-left in told .is
 
 -- ---- the lengths, and both
 
@@ -88,7 +88,7 @@ module _ (t : List ℤ) (room : ℕ) where
   -- What is given for the lengths, as the code goes through them, is their answer.
   pub lengths-given : {x : Answer} → Gives (lengthCauses t room) (doneWith 0) x → x ≡ lengthsOf t room
   unfolding lengthsOf
-  lengths-given g = g .gives
+  lengths-given g = g .is
 
   length-refuses : AllRefuse numberOf (lengthCauses t room)
   length-refuses = (omega arith, (omega arith, (omega arith, tt)))

@@ -144,7 +144,7 @@ module _ (sheet : List ℕ) where
 
   given-sheet : {x : Sheet} → Gives (sheetCauses sheet) (Shapes (wordCount sheet) (sheetSpace sheet)) x → x ≡ sheetOf sheet
   unfolding sheetOf
-  given-sheet g = g .gives
+  given-sheet g = g .is
 
   -- A good sheet of version 1 is read as its requests and its space,
   pub requests-read : wellFormed sheet ≡ true → version sheet ≡ 1 → Requests (wordCount sheet) (sheetSpace sheet) ≡ sheetOf sheet

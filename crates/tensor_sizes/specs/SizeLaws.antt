@@ -24,7 +24,7 @@ use Rattle.tensor_sizes.specs.ByteSize.{greatestDimensions, elementBytes
 -- What is given for the elements of a shape is their answer.
 pub elements-given : (shape : List ℤ) (bytes : ℕ) {x : Answer} → Gives (dimensionCauses shape bytes) (doneWith (elements shape * bytes)) x → x ≡ elementsSizeOf shape bytes
 unfolding elementsSizeOf
-elements-given shape bytes g = g .gives
+elements-given shape bytes g = g .is
 
 -- A dimension below 0 is told first, whatever the product.
 pub negative-told : (shape : List ℤ) (bytes : ℕ) → hasNegative shape ≡ true → refusedAt badRow 0 ≡ elementsSizeOf shape bytes
@@ -34,12 +34,12 @@ module _ (shape : List ℤ) (code : ℤ) where
   -- What is given for a shape and a code is their answer,
   pub size-given : {x : Answer} → Gives (sizeCauses shape code) (doneWith (elements shape * elementBytes (natural code))) x → x ≡ byteSizeOf shape code
   unfolding byteSizeOf
-  size-given g = g .gives
+  size-given g = g .is
 
   -- and past the number of dimensions and the code, that of the elements is.
   pub elements-decide : length shape ≤ greatestDimensions → (elementBytes (natural code) ≡ 0 → ⊥) → elementsSizeOf shape (elementBytes (natural code)) ≡ byteSizeOf shape code
   unfolding elementsSizeOf
-  elements-decide l f = size-given (next (le-ltb _ _ l) (next (ne-eqb _ _ f) record { gives = refl }))
+  elements-decide l f = size-given (next (le-ltb _ _ l) (next (ne-eqb _ _ f) record { is = refl }))
 
 -- ---- one dimension more
 
