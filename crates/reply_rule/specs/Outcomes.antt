@@ -24,7 +24,8 @@ use Rattle.shape_rule.specs.ShapeOutcomes.{ShapesOutcome, lowest-bad, all-good,
 use Rattle.shape_rule.specs.ShapeTable.{tensorSize}
 use Rattle.shape_rule.specs.Sized.{sizedTable}
 use Rattle.shape_rule.specs.SizedRows.{sized-rows}
-use Rattle.sheet_rule.specs.GoodSheets.{Form, requests, shapes, Good, GoodSheet, well-says, well-of, rows-are, shapes-are}
+use Rattle.sheet_rule.specs.GoodSheets.{Form, requests, shapes, Good, GoodSheet, well-says, well-of}
+use Rattle.sheet_rule.specs.ReadSheets.{rows-are, shapes-are}
 use Rattle.sheet_rule.specs.Sheet.{wellFormed, rowCount, sheetWords, sheetSpace}
 use Rattle.reply_rule.specs.Replies.{no-room, shapes-refused, shapes-sized, reply-stands, table-reply, shapes-reply, bad-reply}
 use Rattle.reply_rule.specs.Reply.{tableText, replyText, replyOf, textAfter, numberOf}

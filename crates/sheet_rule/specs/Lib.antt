@@ -1,3 +1,4 @@
 pub mod Sheet
 pub mod GoodSheets
+pub mod ReadSheets
 pub mod SheetExamples

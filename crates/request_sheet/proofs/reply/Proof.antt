@@ -10,7 +10,8 @@ use lib.IntN.{ℤ}
 use lib.ListN.{length, take, drop, length-append}
 use lib.Seq.{take-at}
 use Rattle.word_lists.specs.WordsComeBack.{words-length}
-use Rattle.sheet_rule.specs.GoodSheets.{ReadAs, Table, read-as, requests-say, shapes-say, bad-says, well-says, good-rows, rows-are, shapes-are}
+use Rattle.sheet_rule.specs.GoodSheets.{well-says}
+use Rattle.sheet_rule.specs.ReadSheets.{ReadAs, Table, read-as, requests-say, shapes-say, bad-says, good-rows, rows-are, shapes-are}
 use Rattle.sheet_rule.specs.Sheet.{rowCount, wordCount, sheetWords, sheetSpace}
 use Rattle.request_table.specs.Limits.{greatestRows}
 use Rattle.request_table.specs.Table.{rows}

@@ -9,7 +9,8 @@ use borrow.Author.Needs.{needs}
 use borrow.Author.Tests.{not-true, not-false}
 use lib.ListN.{drop}
 use Rattle.word_lists.specs.WordLists.{wordsFrom}
-use Rattle.sheet_rule.specs.GoodSheets.{words-within, requests-read, shapes-read, bad-read, good-rows, bad-rows}
+use Rattle.sheet_rule.specs.GoodSheets.{words-within}
+use Rattle.sheet_rule.specs.ReadSheets.{requests-read, shapes-read, bad-read, good-rows, bad-rows}
 use Rattle.sheet_rule.specs.Sheet.{rowWords, wordCount, wellFormed, wordsRead}
 use Rattle.sheet_rule.specs.declared.Sheet.the-variants.{Requests, Shapes}
 use Rattle.sheet_bytes.proofs.read.Statement.{statement}
