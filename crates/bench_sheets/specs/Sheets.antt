@@ -1,6 +1,7 @@
--- Document 01's bench sheets, those marked *: one table, one statement. Each sheet has what the definitions give and what is wanted, an answer and
--- the words of the table or state after it (offsets; lifetimes; head, temp, tail and usable). The statement is that the two columns are equal, and
--- the checker computes it. A planner's or lives' sheet lends a table of one entry more than it needs, filled with 7, so that what stays is seen too.
+-- Document 01's bench sheets, those marked *, as document 02 corrects them: one table, one statement. Each sheet has what the definitions give and what is
+-- wanted, an answer and the words of the table or state after it (offsets; lifetimes; head, temp, tail and usable). The statement is that the two columns
+-- are equal, and the checker computes it. A planner's or lives' sheet lends a table of one entry more than it needs, filled with 7, so that what stays is
+-- seen too.
 use Prim.Native.Nat.{ℕ}
 use mathlib.Core.List.{List, [], _∷_, _++_, map}
 use mathlib.Core.Path.{_≡_, refl}
@@ -32,7 +33,7 @@ use Rattle.placement.specs.Placing.{put, free, top, lowest, offsetFor, placing,
 use Rattle.greedy_rule.specs.Greedy.{largerFirst, fixedRows, greedyOrder, greedyPlan}
 use Rattle.greedy_rule.specs.Plan.{fixedCollide, greedyNeed, planOf, plannedTable}
 use Rattle.lifetime_rule.specs.FromUses.{outOfLimits, lifetimesOf, finalLifetimes}
-use Rattle.lifetime_rule.specs.Lifetimes.{names, named, firstOf, lastOf, unnamed, lets, readable, tooEarly}
+use Rattle.lifetime_rule.specs.Lifetimes.{names, named, givesOut, isOutput, firstOf, lastOf, unnamed, lets, readable, tooEarly}
 use Rattle.lifetime_rule.specs.Uses.{reads, writes, modelInput, modelOutput, useAt, good as goodUse}
 
 -- An answer, and the words after it.
@@ -162,7 +163,7 @@ given-uses operators tensors uses lent answer words =
 abbrev input-use : List ℤ
 input-use = one-use 0 0 modelInput
 
--- Tensor 1 is written and a model output; tensor 2 is written by an operator and read by the next.
+-- Tensor 1 is written and a model output, so that by document 02's order 2 it lives 0–2; tensor 2 is written by an operator and read by the next.
 abbrev other-uses : List ℤ
 other-uses = one-use 0 0 reads ++ (one-use 0 1 writes ++ (one-use 0 1 modelOutput ++ (one-use 1 0 reads ++ (one-use 1 2 writes ++ one-use 2 2 reads))))
 
@@ -171,7 +172,7 @@ seven-entries = pos 7 ∷ pos 7 ∷ pos 7 ∷ four-entries
 
 abbrev lifetime-sheets : List Sheet
 lifetime-sheets =
-    given-uses 3 3 (input-use ++ other-uses) seven-entries (doneWith 0) (pos 0 ∷ pos 1 ∷ pos 0 ∷ pos 0 ∷ pos 1 ∷ pos 2 ∷ one-entry)
+    given-uses 3 3 (input-use ++ other-uses) seven-entries (doneWith 0) (pos 0 ∷ pos 1 ∷ pos 0 ∷ pos 2 ∷ pos 1 ∷ pos 2 ∷ one-entry)
     ∷ given-uses 3 3 other-uses seven-entries (refusedAt readBeforeWritten 0) seven-entries
     ∷ []
 
@@ -183,5 +184,5 @@ sheets = planner-sheets ++ (section-sheet ++ lifetime-sheets)
 
 -- The two columns are equal.
 pub sheets-hold : map (λ (s : Sheet). s .given) sheets ≡ map (λ (s : Sheet). s .wanted) sheets
-unfolding one count firstFrom firstIn holdsBelow greatest listFrom rank atRank inOrder partner hasPartner pairBelow pairFirst pairSecond replaced natural isMinusOne roundedUp roundedDown isPowerOfTwo loss allowed liveTogether shareByte collides endOrZero need request good put free top lowest offsetFor placing place largerFirst fixedRows greedyOrder greedyPlan fixedCollide greedyNeed planOf plannedTable valid notUsable openOf persistentFull persistentOf tempFull tempOf headOf after lastIn twoEach useAt goodUse names named firstOf lastOf unnamed lets readable tooEarly outOfLimits lifetimesOf finalLifetimes
+unfolding one count firstFrom firstIn holdsBelow greatest listFrom rank atRank inOrder partner hasPartner pairBelow pairFirst pairSecond replaced natural isMinusOne roundedUp roundedDown isPowerOfTwo loss allowed liveTogether shareByte collides endOrZero need request good put free top lowest offsetFor placing place largerFirst fixedRows greedyOrder greedyPlan fixedCollide greedyNeed planOf plannedTable valid notUsable openOf persistentFull persistentOf tempFull tempOf headOf after lastIn twoEach useAt goodUse names named givesOut isOutput firstOf lastOf unnamed lets readable tooEarly outOfLimits lifetimesOf finalLifetimes
 sheets-hold = refl

@@ -1,12 +1,12 @@
 -- What one use adds, by each way through the code.
-use Prim.Native.Nat.{ℕ, _+_, _<_, _≤_, min, max}
-use mathlib.Core.Bool.{Bool, true, false, _&&_}
+use Prim.Native.Nat.{ℕ, _+_, _≤_, min, max}
+use mathlib.Core.Bool.{Bool, true, false, _&&_, _||_}
 use mathlib.Core.Path.{_≡_, refl}
 use native.Mathlib.Omega.{arith}
-use borrow.Author.Tests.{ltb-true, ltb-false, lt-ltb, le-ltb, ne-eqb}
+use borrow.Author.Tests.{ltb-true, ltb-false, eq-eqb, ne-eqb}
 use lib.Dec.{ltb, eqb}
-use Rattle.bounded.specs.Boolean.{both}
-use Rattle.lifetime_rule.specs.Uses.{writes, modelInput, greatestOperators}
+use Rattle.bounded.specs.Boolean.{both, neither}
+use Rattle.lifetime_rule.specs.Uses.{writes, modelInput, modelOutput, greatestOperators}
 use Rattle.lifetime_rule.specs.declared.Use.{Use}
 use Rattle.known_lifetimes.specs.OneUseMore.{readableWith, lifetimeWith}
 use Rattle.known_lifetimes.specs.declared.Lifetime.{Lifetime}
@@ -32,17 +32,23 @@ module _ (r : ℕ) (x : Use) where
       go true q = omega (arith, ltb-false (x .operator .0 + 1) r q)
       go false q = refl
 
+-- A use that is looked at has an operator within the limit.
+pub within-limit : (x : Use) → ltb modelOutput (x .role) || ltb greatestOperators (x .operator .0) ≡ false → x .operator .0 ≤ greatestOperators
+within-limit x e = ltb-false _ _ (neither (ltb modelOutput (x .role)) (ltb greatestOperators (x .operator .0)) e .1)
+
 -- The whole of what is known, as each way through the code has it.
-module _ (l : Lifetime) (x : Use) where
-  pub lifetime-stays : modelInput < x .role → l ≡ lifetimeWith l x
+module _ (l : Lifetime) (x : Use) (operators : ℕ) where
+  pub lifetime-stays : ltb modelOutput (x .role) || ltb greatestOperators (x .operator .0) ≡ true → l ≡ lifetimeWith l x operators
   unfolding lifetimeWith
-  lifetime-stays h = rw (lt-ltb modelInput (x .role) h, lifetimeWith)
+  lifetime-stays e = rw (e, lifetimeWith)
 
-  pub lifetime-past : x .role ≤ modelInput → greatestOperators < x .operator .0 → l ≡ lifetimeWith l x
-  unfolding lifetimeWith
-  lifetime-past h m = rw (le-ltb modelInput (x .role) h, lt-ltb greatestOperators (x .operator .0) m, lifetimeWith)
+  module _ (e : ltb modelOutput (x .role) || ltb greatestOperators (x .operator .0) ≡ false) where
+    pub lifetime-lasts : x .role ≡ modelOutput → _≡_ {A = Lifetime} (record { first = l .first; end = record { 0 = operators }; readable = l .readable }) (lifetimeWith l x operators)
+    unfolding lifetimeWith
+    lifetime-lasts q = rw (e, lifetimeWith, eq-eqb (x .role) modelOutput q)
 
-  pub lifetime-counts : {f a r : ℕ} → x .role ≤ modelInput → x .operator .0 ≤ greatestOperators → f ≡ min (l .first .0) (x .operator .0) → a ≡ max (l .end .0) (x .operator .0 + 1) → r ≡ readableWith (l .readable .0) x
-      → _≡_ {A = Lifetime} (record { first = record { 0 = f }; end = record { 0 = a }; readable = record { 0 = r } }) (lifetimeWith l x)
-  unfolding lifetimeWith
-  lifetime-counts h m p q s = rw (le-ltb modelInput (x .role) h, le-ltb greatestOperators (x .operator .0) m, lifetimeWith) (λ i. record { first = record { 0 = p i }; end = record { 0 = q i }; readable = record { 0 = s i } })
+    pub lifetime-counts : {f a r : ℕ} → (x .role ≡ modelOutput → ⊥) → f ≡ min (l .first .0) (x .operator .0) → a ≡ max (l .end .0) (x .operator .0 + 1) → r ≡ readableWith (l .readable .0) x
+        → _≡_ {A = Lifetime} (record { first = record { 0 = f }; end = record { 0 = a }; readable = record { 0 = r } }) (lifetimeWith l x operators)
+    unfolding lifetimeWith
+    lifetime-counts h p q s =
+        rw (e, lifetimeWith, ne-eqb (x .role) modelOutput h) (λ i. record { first = record { 0 = p i }; end = record { 0 = q i }; readable = record { 0 = s i } })

@@ -7,10 +7,11 @@ use lifetime_rule::Use;
 use operator_uses::GREATEST_OPERATORS;
 use units::Moment;
 use use_rows::MODEL_INPUT;
+use use_rows::MODEL_OUTPUT;
 use use_rows::WRITES;
 
-// What the uses say of a tensor: the lowest operator that names it, one past the highest that does, and the lowest that may read it. Where there is none,
-// the number of operators stands for a lowest one, and the end is 0.
+// What the uses say of a tensor: the lowest operator that names it; one past the last of its life, which is the highest that names it or, for a model
+// output, the last of all; and the lowest that may read it. Where there is none, the number of operators stands for a lowest one, and the end is 0.
 pub struct Lifetime {
     pub first: Moment,
     pub end: Moment,
@@ -54,16 +55,19 @@ fn readable_with(lifetime: Lifetime, usage: Use) -> Moment
     lifetime.readable
 }
 
-// What is known of a tensor with one use of it more. A model output says nothing; the operator of a model input is 0. Nor does a use past the limit of
-// operators, which no good use is: so nothing is asked of the caller, and no sum can wrap.
-pub fn lifetime_with(lifetime: Lifetime, usage: Use) -> Lifetime
-    ensures { λ r. ⌜ r ≡ lifetimeWith lifetime usage ⌝ }
+// What is known of a tensor with one use of it more, by a model of so many operators. A model output lives through the last of them, and who names it or
+// may read it stays; the operator of a model input is 0. A use of another role or past the limit of operators, which no good use is, says nothing: so
+// nothing is asked of the caller, and no sum can wrap.
+pub fn lifetime_with(lifetime: Lifetime, usage: Use, operators: u32) -> Lifetime
+    ensures { λ r. ⌜ r ≡ lifetimeWith lifetime usage operators ⌝ }
 {
-    if MODEL_INPUT < usage.role {
+    if (MODEL_OUTPUT < usage.role) | (GREATEST_OPERATORS < usage.operator.0) {
         return lifetime;
     }
-    if GREATEST_OPERATORS < usage.operator.0 {
-        return lifetime;
+    if usage.role == MODEL_OUTPUT {
+        let mut lasting = lifetime;
+        lasting.end.0 = operators;
+        return lasting;
     }
     let first = first_with(lifetime, usage.operator);
     let end = end_with(lifetime, usage.operator);

@@ -1,15 +1,16 @@
 -- Lives (document 01, "The desk's order of checks", Lives): "A life runs from the lowest to the highest operator that names the tensor by role 0 or 1;
--- role 2 counts as naming by operator 0. Role 3 changes nothing. A read needs role 2 or a write by an earlier operator." Where a use stands in the list
--- says nothing; an operator is earlier where its number is lower. The document's life is a lifetime here.
-use Prim.Native.Nat.{ℕ}
-use mathlib.Core.Bool.{Bool, not, _&&_, _||_}
+-- role 2 counts as naming by operator 0. [..] A read needs role 2 or a write by an earlier operator." Document 02, order 2, corrects what document 01 says
+-- of role 3: "A tensor with role 3 now lives through operator T − 1. One that has only role 3 is still number 20." Where a use stands in the list says
+-- nothing; an operator is earlier where its number is lower. The documents' life is a lifetime here.
+use Prim.Native.Nat.{ℕ, _-_}
+use mathlib.Core.Bool.{Bool, true, false, not, _&&_, _||_}
 use mathlib.Core.List.{List}
 use lib.Dec.{ltb, eqb}
 use lib.IntN.{ℤ, pos}
 use Rattle.bounded.specs.First.{firstIn, holdsBelow}
 use Rattle.bounded.specs.Last.{lastIn}
 use Rattle.bounded.specs.TwoEach.{twoEach}
-use Rattle.lifetime_rule.specs.Uses.{reads, writes, modelInput, count, useAt}
+use Rattle.lifetime_rule.specs.Uses.{reads, writes, modelInput, modelOutput, count, useAt}
 use Rattle.lifetime_rule.specs.declared.Use.{Use}
 
 -- The use names tensor t by operator m: by role 0 or 1 that is its own operator, and "role 2 counts as naming by operator 0".
@@ -23,15 +24,23 @@ names x t m =
 unfoldable pub named : List ℤ → ℕ → ℕ → Bool
 named u t m = holdsBelow (λ k. names (useAt u k) t m) (count u)
 
+-- The use makes tensor t a model output.
+unfoldable pub givesOut : Use → ℕ → Bool
+givesOut x t = eqb (x .tensor .0) t && eqb (x .role) modelOutput
+
+-- "A tensor with role 3", in some use.
+unfoldable pub isOutput : List ℤ → ℕ → Bool
+isOutput u t = holdsBelow (λ k. givesOut (useAt u k) t) (count u)
+
 -- "A life runs from the lowest
 unfoldable pub firstOf : ℕ → List ℤ → ℕ → ℕ
 firstOf operators u t = firstIn (named u t) 0 operators
 
--- to the highest operator that names the tensor".
+-- to the highest operator that names the tensor"; but "A tensor with role 3 now lives through operator T − 1".
 unfoldable pub lastOf : ℕ → List ℤ → ℕ → ℕ
-lastOf operators u t = lastIn (named u t) operators
+lastOf operators u t = elim (isOutput u t) [ true ↦ operators - 1 | false ↦ lastIn (named u t) operators ]
 
--- "tensor never named": by no operator. "a tensor with only role 3 is unnamed".
+-- "tensor never named": by no operator. "One that has only role 3 is still number 20."
 unfoldable pub unnamed : ℕ → List ℤ → ℕ → Bool
 unnamed operators u t = not (holdsBelow (named u t) operators)
 

@@ -1,4 +1,5 @@
--- What the tests of naming and of reading say, over signed words and both ways: which use names a tensor by which operator, and which use lets another read.
+-- What the tests of naming, of outputs and of reading say, over signed words and both ways: which use names a tensor by which operator, which makes it a
+-- model output, and which lets another use read.
 use Prim.Native.Nat.{ℕ, _<_}
 use mathlib.Core.Bool.{true, false, not, _&&_, _||_}
 use mathlib.Core.List.{List}
@@ -13,14 +14,19 @@ use Rattle.bounded.specs.First.{firstIn, found, some-found, none-holds}
 use Rattle.words.specs.Words.{natural}
 use Rattle.words.specs.WordOrders.{lt-of, of-lt}
 use Rattle.lifetime_rule.specs.GoodUses.{Natural}
-use Rattle.lifetime_rule.specs.Lifetimes.{names, named, lets, readable, tooEarly}
-use Rattle.lifetime_rule.specs.Uses.{reads, writes, modelInput, count, word, useAt}
+use Rattle.lifetime_rule.specs.Lifetimes.{names, named, givesOut, isOutput, lets, readable, tooEarly}
+use Rattle.lifetime_rule.specs.Uses.{reads, writes, modelInput, modelOutput, count, word, useAt}
 
 -- Use k names tensor t by operator m: it reads or writes it there, or the tensor is a model input, which "counts as naming by operator 0".
 pub data Names (u : List ℤ) (t m k : ℕ) : Type 0 where
   by-reading : word u k 2 ≡ pos reads → word u k 1 ≡ pos t → word u k 0 ≡ pos m → Names u t m k
   by-writing : word u k 2 ≡ pos writes → word u k 1 ≡ pos t → word u k 0 ≡ pos m → Names u t m k
   as-input : word u k 2 ≡ pos modelInput → word u k 1 ≡ pos t → m ≡ 0 → Names u t m k
+
+-- Use k makes tensor t a model output.
+pub record GivesOut (u : List ℤ) (t k : ℕ) : Type 0 where
+  pub role : word u k 2 ≡ pos modelOutput
+  pub tensor : word u k 1 ≡ pos t
 
 -- Use j lets use k read: both are of one tensor, and it is a model input or use j writes it by an earlier operator.
 pub data Lets (u : List ℤ) (k j : ℕ) : Type 0 where
@@ -36,6 +42,10 @@ pub record Some (u : List ℤ) (So : ℕ → Type 0) : Type 0 where
 -- The list names tensor t by operator m.
 abbrev pub Named : List ℤ → ℕ → ℕ → Type 0
 Named u t m = Some u (Names u t m)
+
+-- Tensor t is a model output: some use has it in role 3.
+abbrev pub Output : List ℤ → ℕ → Type 0
+Output u t = Some u (GivesOut u t)
 
 -- Use k reads its tensor, and no use lets it.
 pub record TooEarly (u : List ℤ) (k : ℕ) : Type 0 where
@@ -75,6 +85,19 @@ module _ (u : List ℤ) (k : ℕ) where
           → Names u t m k
       how w (inl q) = let x = both (eqb (natural (word u k 2)) reads || eqb (natural (word u k 2)) writes) (eqb (natural (word u k 0)) m) q in act w (x .1) (either _ _ (x .0))
       how w (inr q) = let x = both (eqb (natural (word u k 2)) modelInput) (eqb 0 m) q in as-input (role (x .0)) w (sym (eqb-true 0 m (x .1)))
+
+  -- A use that makes a tensor a model output passes the test,
+  pub gives-out-of : (t : ℕ) → GivesOut u t k → givesOut (useAt u k) t ≡ true
+  unfolding givesOut useAt natural
+  gives-out-of t x = both-hold _ _ (eq-eqb _ t (ap natural (x .tensor))) (eq-eqb _ modelOutput (ap natural (x .role)))
+
+  -- and the other way.
+  pub gives-out-says : (t : ℕ) → Natural u k → givesOut (useAt u k) t ≡ true → GivesOut u t k
+  unfolding givesOut useAt
+  gives-out-says t n e =
+      let x = useAt u k in
+      let a = both (eqb (x .tensor .0) t) (eqb (x .role) modelOutput) e in
+      record { role = n .role-is ∙ ap pos (eqb-true _ _ (a .1)); tensor = n .tensor-is ∙ ap pos (eqb-true _ _ (a .0)) }
 
   -- A use that passes the other test lets another read,
   pub lets-says : (j : ℕ) → Natural u k → Natural u j → lets (useAt u j) (natural (word u k 1)) (natural (word u k 0)) ≡ true → Lets u k j
@@ -116,6 +139,18 @@ module _ (u : List ℤ) (each : (k : ℕ) → k < count u → Natural u k) where
   pub named-of : (t m : ℕ) → Named u t m → named u t m ≡ true
   unfolding named
   named-of t m x = some-found (λ k. names (useAt u k) t m) (count u) (x .which) (x .within) (names-of u (x .which) t m (x .so))
+
+  -- A tensor is a model output as the test says,
+  pub output-says : (t : ℕ) → isOutput u t ≡ true → Output u t
+  unfolding isOutput
+  output-says t e =
+      let x = found (λ k. givesOut (useAt u k) t) (count u) e in
+      record { which = firstIn (λ k. givesOut (useAt u k) t) 0 (count u); within = x .0; so = gives-out-says u _ t (each _ (x .0)) (x .1) }
+
+  -- and the other way.
+  pub output-of : (t : ℕ) → Output u t → isOutput u t ≡ true
+  unfolding isOutput
+  output-of t x = some-found (λ k. givesOut (useAt u k) t) (count u) (x .which) (x .within) (gives-out-of u (x .which) t (x .so))
 
   -- A use that reads, and not too early, is let by some use.
   pub read-let : (k : ℕ) → k < count u → word u k 2 ≡ pos reads → tooEarly u k ≡ false → Some u (Lets u k)

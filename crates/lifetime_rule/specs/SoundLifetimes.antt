@@ -1,18 +1,19 @@
--- Law: what a done operator list leaves. Each tensor's life has 0 ≤ first ≤ last < T, holds every operator that names the tensor, and is named at both ends;
--- no read stands without role 2 or a write by an earlier operator. So a life is neither too short nor too long, and its ends are good moments for a row of
--- the request table.
-use Prim.Native.Nat.{ℕ, _+_, _*_, _<_, _≤_}
-use mathlib.Core.Bool.{false}
+-- Law: what a done operator list leaves. Each tensor's life has 0 ≤ first ≤ last < T and holds every operator that names the tensor; its first operator
+-- names the tensor, and its last one does too or is T − 1, for a model output; no read stands without role 2 or a write by an earlier operator. So a life
+-- is neither too short nor too long, and its ends are good moments for a row of the request table.
+use Prim.Native.Nat.{ℕ, _+_, _*_, _-_, _<_, _≤_}
+use mathlib.Core.Bool.{Bool, true, false}
 use mathlib.Core.List.{List}
 use mathlib.Core.Logic.{⊎-elim}
-use mathlib.Core.Path.{_≡_, sym, _∙_, ap, subst}
+use mathlib.Core.Path.{_≡_, refl, sym, _∙_, ap, subst}
 use native.Mathlib.Omega.{arith}
 use borrow.Author.Tests.{not-false}
 use lib.IntN.{ℤ, pos}
 use lib.ListN.{length}
 use lib.Signed.{_≤ℤ_}
 use Rattle.answer.specs.Answer.{numberOf, doneWith}
-use Rattle.bounded.specs.Boolean.{lt-or-le}
+use Rattle.bounded.specs.Boolean.{contrary, lt-or-le}
+use Rattle.bounded.specs.Last.{lastIn}
 use Rattle.bounded.specs.Lowest.{Lowest, Highest, lowest-of, highest-of}
 use Rattle.bounded.specs.Replaced.{replaced-length, replaced-at, replaced-past}
 use Rattle.bounded.specs.TwoEach.{two-first, two-second}
@@ -21,18 +22,23 @@ use Rattle.words.specs.WordOrders.{le-of}
 use Rattle.request_table.specs.Limits.{lastMoment}
 use Rattle.lifetime_rule.specs.Answers.{natural-words, Done, done-says, done-lifetimes}
 use Rattle.lifetime_rule.specs.GoodUses.{Natural, tests}
-use Rattle.lifetime_rule.specs.Lifetimes.{named, firstOf, lastOf, unnamed, lifetimeWord}
+use Rattle.lifetime_rule.specs.Lifetimes.{named, isOutput, firstOf, lastOf, unnamed, lifetimeWord}
 use Rattle.lifetime_rule.specs.FromUses.{lifetimesOf, finalLifetimes}
-use Rattle.lifetime_rule.specs.Naming.{Names, by-reading, by-writing, as-input, Lets, Some, Named, named-says, named-of, read-let}
+use Rattle.lifetime_rule.specs.Naming.{Names, by-reading, by-writing, as-input, Lets, Some, Named, Output, named-says, named-of, output-says, output-of, read-let}
 use Rattle.lifetime_rule.specs.Uses.{reads, count, word, useAt}
 
--- A tensor lives from first to last: "from the lowest to the highest operator that names the tensor".
+-- Why a life ends where it does: "A tensor with role 3 now lives through operator T − 1", and the life of any other ends with an operator that names it.
+pub data Ends (operators : ℕ) (u : List ℤ) (t last : ℕ) : Type 0 where
+  as-output : Output u t → last + 1 ≡ operators → Ends operators u t last
+  by-naming : (Output u t → ⊥) → Named u t last → Ends operators u t last
+
+-- A tensor lives from first to last: "from the lowest to the highest operator that names the tensor", or through T − 1.
 pub record Lifetime (operators : ℕ) (u : List ℤ) (t first last : ℕ) : Type 0 where
   pub rising : first ≤ last
   pub below : last < operators
   pub holds : (m k : ℕ) → k < count u → Names u t m k → (first ≤ m) × (m ≤ last)
   pub first-named : Named u t first
-  pub last-named : Named u t last
+  pub ends : Ends operators u t last
 
 -- The lifetimes in the end, the first and last of each tensor, and the reads.
 pub record Left (operators tensors : ℕ) (u lifetimes : List ℤ) : Type 0 where
@@ -55,29 +61,48 @@ module _ (operators : ℕ) (u : List ℤ) (each : (k : ℕ) → k < count u → 
   unfolding unnamed firstOf
   first-is-lowest = lowest-of (named u t) operators (λ m l. named-says u each t m) (λ m l. named-of u each t m) (not-false _ e)
 
-  -- and ends at the highest.
-  pub last-is-highest : Highest (Named u t) operators (lastOf operators u t)
+  -- That of a model output ends with operator T − 1,
+  pub output-lasts : Output u t → lastOf operators u t + 1 ≡ operators
+  unfolding lastOf
+  output-lasts x = rw (output-of u each t x, lastOf) (omega (arith, first-is-lowest .within))
+
+  -- and that of any other at the highest operator that names the tensor.
+  pub last-is-highest : (Output u t → ⊥) → Highest (Named u t) operators (lastOf operators u t)
   unfolding unnamed lastOf
-  last-is-highest = highest-of (named u t) operators (named-says u each t) (named-of u each t) (not-false _ e)
+  last-is-highest f = go (isOutput u t) refl
+    where
+      go : (b : Bool) → isOutput u t ≡ b → Highest (Named u t) operators (elim b [ true ↦ operators - 1 | false ↦ lastIn (named u t) operators ])
+      go true q = absurd (f (output-says u each t q))
+      go false q = highest-of (named u t) operators (named-says u each t) (named-of u each t) (not-false _ e)
+
+  -- How it ends, and that no operator that names the tensor comes later.
+  ending : (b : Bool) → isOutput u t ≡ b → Ends operators u t (lastOf operators u t) × ((m : ℕ) → m < operators → Named u t m → m ≤ lastOf operators u t)
+  ending true q = let x = output-says u each t q in (as-output x (output-lasts x), λ m l n. omega (arith, output-lasts x))
+  ending false q =
+      let f : Output u t → ⊥ = λ x. contrary (output-of u each t x) q in
+      let h = last-is-highest f in
+      (by-naming f (h .here), λ m l n. ⊎-elim (λ k. absurd (h .above m k l n)) (λ k. k) (lt-or-le (lastOf operators u t) m))
 
   -- So a named tensor lives, where every operator that names it is one of the operators.
   pub named-lifetime : ((m k : ℕ) → k < count u → Names u t m k → m < operators) → Lifetime operators u t (firstOf operators u t) (lastOf operators u t)
   named-lifetime low =
+      let x = ending (isOutput u t) refl in
       record {
-        rising = not-above (firstOf operators u t) (first-is-lowest .within) (first-is-lowest .here);
-        below = last-is-highest .within;
+        rising = x .1 (firstOf operators u t) (first-is-lowest .within) (first-is-lowest .here);
+        below = ends-below (x .0);
         holds = λ m k w n.
             let named-there : Named u t m = record { which = k; within = w; so = n } in
-            (not-below m named-there, not-above m (low m k w n) named-there);
+            (not-below m named-there, x .1 m (low m k w n) named-there);
         first-named = first-is-lowest .here;
-        last-named = last-is-highest .here;
+        ends = x .0;
       }
     where
       not-below : (m : ℕ) → Named u t m → firstOf operators u t ≤ m
       not-below m n = ⊎-elim (λ l. absurd (first-is-lowest .below m l n)) (λ l. l) (lt-or-le m (firstOf operators u t))
 
-      not-above : (m : ℕ) → m < operators → Named u t m → m ≤ lastOf operators u t
-      not-above m l n = ⊎-elim (λ h. absurd (last-is-highest .above m h l n)) (λ h. h) (lt-or-le (lastOf operators u t) m)
+      ends-below : Ends operators u t (lastOf operators u t) → lastOf operators u t < operators
+      ends-below (as-output x q) = omega arith
+      ends-below (by-naming f n) = last-is-highest f .within
 
 -- ---- a done list
 
@@ -116,6 +141,20 @@ module _ (operators tensors : ℕ) (u lifetimes : List ℤ) (d : lifetimesOf ope
         long = ap length f ∙ replaced-length (lifetimeWord operators u) (tensors * 2) lifetimes;
         let-read = λ k l e. read-let u all-natural k l e (done .none-early k l);
       }
+
+  -- A model output is one of the tensors, and it lives through operator T − 1.
+  pub output-within : (t : ℕ) → Output u t → t < tensors
+  unfolding natural useAt
+  output-within t x =
+      let y = tests operators tensors (useAt u (x .which)) (done .uses-good .each (x .which) (x .within)) in
+      omega (arith, y .tensor, ap natural (x .so .tensor))
+
+  pub output-last : (t : ℕ) → Output u t → left .last t + 1 ≡ operators
+  output-last t x = go (left .lifetime t (output-within t x) .ends)
+    where
+      go : Ends operators u t (left .last t) → left .last t + 1 ≡ operators
+      go (as-output y q) = q
+      go (by-naming f n) = absurd (f x)
 
   -- The ends of a life are good moments for a request row: "0 ≤ first ≤ last ≤ 65,535".
   pub good-moments : (t : ℕ) → t < tensors → (first last : ℤ) → first ≡ wordAt (finalLifetimes operators tensors u lifetimes) (t * 2) → last ≡ wordAt (finalLifetimes operators tensors u lifetimes) (t * 2 + 1)

@@ -9,13 +9,13 @@ use lib.ListN.{length, set, replicate, length-set, length-replicate, getD-replic
 use lib.Seq.{getD-set-same, getD-set-other}
 use Rattle.bounded.specs.Boolean.{same-or-not}
 use Rattle.bounded.specs.First.{first-none, holds-none}
-use Rattle.bounded.specs.Last.{end-none}
 use Rattle.lifetime_rule.specs.GoodUses.{tests}
 use Rattle.lifetime_rule.specs.Uses.{greatestOperators, greatestTensors, count, useAt}
 use Rattle.lifetime_rule.specs.declared.Use.{Use}
-use Rattle.tensor_lifetimes.specs.Gathered.{namedSoFar, readableSoFar, lifetimeSoFar, noLifetime, lifetimeIn, GoodList, HoldsLifetimes}
+use Rattle.tensor_lifetimes.specs.Gathered.{namedSoFar, outputSoFar, readableSoFar, lifetimeSoFar, noLifetime, lifetimeIn, GoodList, HoldsLifetimes}
 use Rattle.known_lifetimes.specs.OneUseMore.{lifetimeWith}
 use Rattle.known_lifetimes.specs.declared.Lifetime.{Lifetime}
+use Rattle.tensor_lifetimes.proofs.LifetimeEnds.{end-nothing}
 use Rattle.tensor_lifetimes.proofs.OneUse.{other-tensor, own-tensor}
 
 -- ---- before any use
@@ -26,10 +26,10 @@ unknown operators = refl
 
 -- It is what no use says.
 nothing-known : (operators : ℕ) (u : List ℤ) (t : ℕ) → noLifetime operators ≡ lifetimeSoFar operators u 0 t
-unfolding lifetimeSoFar namedSoFar readableSoFar
+unfolding lifetimeSoFar namedSoFar outputSoFar readableSoFar
 nothing-known operators u t =
     let first = first-none (namedSoFar u 0 t) operators (λ m l. holds-none _) in
-    let end = end-none (namedSoFar u 0 t) operators (λ m l. holds-none _) in
+    let end = end-nothing (outputSoFar u 0 t) (namedSoFar u 0 t) operators (holds-none _) (λ m. holds-none _) in
     let readable = first-none (readableSoFar u 0 t) operators (λ m l. holds-none _) in
     sym (λ i. record { first = record { 0 = first i }; end = record { 0 = end i }; readable = record { 0 = readable i } })
 
@@ -59,7 +59,7 @@ within-limits {operators} {u} g {j} e l =
 
 module _ {operators : ℕ} {u : List ℤ} (g : GoodList operators u) {gathered : List Lifetime} {j : ℕ} (w : Gathered operators u gathered j) where
   -- One use more.
-  pub gathered-more : {x : Use} {v : Lifetime} → j < count u → x ≡ useAt u j → v ≡ lifetimeWith (lifetimeIn gathered (x .tensor .0)) x → Gathered operators u (set gathered (x .tensor .0) v) (j + 1)
+  pub gathered-more : {x : Use} {v : Lifetime} → j < count u → x ≡ useAt u j → v ≡ lifetimeWith (lifetimeIn gathered (x .tensor .0)) x operators → Gathered operators u (set gathered (x .tensor .0) v) (j + 1)
   gathered-more {x} {v} l e q =
       record {
         index = omega arith;
@@ -70,8 +70,8 @@ module _ {operators : ℕ} {u : List ℤ} (g : GoodList operators u) {gathered :
       new : v ≡ lifetimeSoFar operators u (j + 1) (x .tensor .0)
       new =
           q
-          ∙ ap (λ (y : Lifetime). lifetimeWith y x) (w .each (x .tensor .0) (within-limits g e l .0))
-          ∙ subst (λ (y : Use). lifetimeWith (lifetimeSoFar operators u j (y .tensor .0)) y ≡ lifetimeSoFar operators u (j + 1) (y .tensor .0)) (sym e) (own-tensor operators (g .tensors) u j (g .few-operators) (g .uses-good .each j l))
+          ∙ ap (λ (y : Lifetime). lifetimeWith y x operators) (w .each (x .tensor .0) (within-limits g e l .0))
+          ∙ subst (λ (y : Use). lifetimeWith (lifetimeSoFar operators u j (y .tensor .0)) y operators ≡ lifetimeSoFar operators u (j + 1) (y .tensor .0)) (sym e) (own-tensor operators (g .tensors) u j (g .few-operators) (g .uses-good .each j l))
 
       go : (t : ℕ) → t < greatestTensors → (x .tensor .0 ≡ t) ⊎ (x .tensor .0 ≡ t → ⊥) → lifetimeIn (set gathered (x .tensor .0) v) t ≡ lifetimeSoFar operators u (j + 1) t
       go t m (inl d) =

@@ -10,15 +10,15 @@ use lib.Dec.{leb, ltb, eqb}
 use lib.IntN.{ℤ, pos}
 use Rattle.bounded.specs.Boolean.{both, both-hold, either, lt-or-le}
 use Rattle.bounded.specs.First.{firstIn, holdsBelow, first-is, first-same, found, some-found}
-use Rattle.bounded.specs.Last.{before-end, last-before-end}
 use Rattle.bounded.specs.Replaced.{replaced, replaced-same}
 use Rattle.bounded.specs.TwoEach.{two-same}
 use Rattle.lifetime_rule.specs.Answers.{EachGood}
 use Rattle.lifetime_rule.specs.GoodUses.{tests}
-use Rattle.lifetime_rule.specs.Lifetimes.{named, firstOf, lastOf, unnamed, lets, readable, tooEarly, lifetimeWord}
+use Rattle.lifetime_rule.specs.Lifetimes.{named, isOutput, firstOf, lastOf, unnamed, lets, readable, tooEarly, lifetimeWord}
 use Rattle.lifetime_rule.specs.Uses.{reads, writes, modelInput, greatestOperators, greatestTensors, count, useAt, good}
 use Rattle.lifetime_rule.specs.declared.Use.{Use}
-use Rattle.tensor_lifetimes.specs.Gathered.{namedSoFar, readableSoFar, lifetimeSoFar, lifetimeIn, HoldsLifetimes, FewTensors, StorableLifetimes, unnamedIn, earlyIn, storedWord}
+use Rattle.tensor_lifetimes.specs.Gathered.{namedSoFar, outputSoFar, readableSoFar, lifetimeSoFar, lifetimeIn, HoldsLifetimes, FewTensors, StorableLifetimes, unnamedIn, earlyIn, storedWord}
+use Rattle.tensor_lifetimes.proofs.LifetimeEnds.{end-above, last-before}
 use Rattle.tensor_lifetimes.proofs.OneUse.{known-high}
 use Rattle.known_lifetimes.specs.declared.Lifetime.{Lifetime}
 
@@ -88,20 +88,20 @@ module _ {operators : ℕ} {u : List ℤ} {gathered : List Lifetime} (h : HoldsL
 
   -- The lives of the array, stored, are the lives.
   pub stored-is : (tensors : ℕ) (lifetimes : List ℤ) → tensors ≤ greatestTensors → replaced (storedWord gathered) (tensors * 2) lifetimes ≡ replaced (lifetimeWord operators u) (tensors * 2) lifetimes
-  unfolding lifetimeSoFar namedSoFar firstOf lastOf named
+  unfolding lifetimeSoFar namedSoFar outputSoFar firstOf lastOf named isOutput
   stored-is tensors lifetimes few =
       replaced-same (storedWord gathered) (lifetimeWord operators u) (tensors * 2) lifetimes
       (two-same _ _ _ _ tensors (λ t l. ap (λ (x : Lifetime). pos (x .first .0)) (h .each t (omega arith)))
-      (λ t l. ap (λ (x : Lifetime). pos (x .end .0 - 1)) (h .each t (omega arith)) ∙ ap pos (last-before-end (named u t) operators)))
+      (λ t l. ap (λ (x : Lifetime). pos (x .end .0 - 1)) (h .each t (omega arith)) ∙ ap pos (last-before (isOutput u t) (named u t) operators)))
 
   -- They can be stored, where every tensor is named.
   pub storable : (tensors : ℕ) → tensors ≤ greatestTensors → operators ≤ greatestOperators → ((t : ℕ) → t < tensors → unnamed operators u t ≡ false) → StorableLifetimes tensors gathered
-  unfolding lifetimeSoFar namedSoFar unnamed named
+  unfolding lifetimeSoFar namedSoFar outputSoFar unnamed named isOutput
   storable tensors few low all =
       record {
         ended = λ t l.
             let x = found (named u t) operators (not-false _ (all t l)) in
-            omega (arith, ap (λ (y : Lifetime). y .end .0) (h .each t (omega arith)), before-end (named u t) operators _ (x .0) (x .1));
+            omega (arith, ap (λ (y : Lifetime). y .end .0) (h .each t (omega arith)), end-above (isOutput u t) (named u t) operators _ (x .0) (x .1));
         first-small = λ t l. omega (arith, ap (λ (x : Lifetime). x .first .0) (h .each t (omega arith)), known-high operators u (count u) t .0);
         end-small = λ t l. omega (arith, ap (λ (x : Lifetime). x .end .0) (h .each t (omega arith)), known-high operators u (count u) t .1);
       }

@@ -1,3 +1,4 @@
+pub mod LifetimeEnds
 pub mod OneUse
 pub mod Gathering
 pub mod Judging

@@ -1,6 +1,6 @@
 -- What the code gathers of each tensor: what the first j uses say of it, one use after the other.
 use Prim.Native.Nat.{ℕ, _-_, _<_, _≤_}
-use mathlib.Core.Bool.{Bool, _&&_}
+use mathlib.Core.Bool.{Bool, true, false, _&&_}
 use mathlib.Core.List.{List}
 use mathlib.Core.Path.{_≡_}
 use lib.Dec.{leb, ltb, eqb}
@@ -10,13 +10,21 @@ use Rattle.bounded.specs.First.{firstIn, holdsBelow}
 use Rattle.bounded.specs.Last.{endIn}
 use Rattle.bounded.specs.TwoEach.{twoEach}
 use Rattle.lifetime_rule.specs.Answers.{EachGood}
-use Rattle.lifetime_rule.specs.Lifetimes.{names, lets}
+use Rattle.lifetime_rule.specs.Lifetimes.{names, givesOut, lets}
 use Rattle.lifetime_rule.specs.Uses.{reads, greatestOperators, greatestTensors, count, useAt}
 use Rattle.known_lifetimes.specs.declared.Lifetime.{Lifetime}
 
 -- Operator m names tensor t in one of the first j uses.
 unfoldable pub namedSoFar : List ℤ → ℕ → ℕ → ℕ → Bool
 namedSoFar u j t m = holdsBelow (λ k. names (useAt u k) t m) j
+
+-- One of the first j uses makes tensor t a model output.
+unfoldable pub outputSoFar : List ℤ → ℕ → ℕ → Bool
+outputSoFar u j t = holdsBelow (λ k. givesOut (useAt u k) t) j
+
+-- The end of a life: one past the last of so many operators for a model output, else one past the last at which the test of naming holds.
+unfoldable pub endBy : Bool → (ℕ → Bool) → ℕ → ℕ
+endBy output p operators = elim output [ true ↦ operators | false ↦ endIn p operators ]
 
 -- One of the first j uses lets operator m read tensor t.
 unfoldable pub readableSoFar : List ℤ → ℕ → ℕ → ℕ → Bool
@@ -27,7 +35,7 @@ unfoldable pub lifetimeSoFar : ℕ → List ℤ → ℕ → ℕ → Lifetime
 lifetimeSoFar operators u j t =
     record {
       first = record { 0 = firstIn (namedSoFar u j t) 0 operators };
-      end = record { 0 = endIn (namedSoFar u j t) operators };
+      end = record { 0 = endBy (outputSoFar u j t) (namedSoFar u j t) operators };
       readable = record { 0 = firstIn (readableSoFar u j t) 0 operators };
     }
 

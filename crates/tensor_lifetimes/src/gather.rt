@@ -31,7 +31,7 @@ pub(crate) fn gather(operators: u32, uses: &[i32]) -> [Lifetime; GREATEST_TENSOR
         let usage = use_rows::use_at(uses, k);
         let at = usage.tensor.0;
         let lifetime = gathered[at];
-        gathered[at] = known_lifetimes::lifetime_with(lifetime, usage);
+        gathered[at] = known_lifetimes::lifetime_with(lifetime, usage, operators);
         k += 1;
     }
     gathered

@@ -48,6 +48,12 @@ from-zero a (pos n) p q = le-of 0 n (omega arith)
 from-zero (pos m) (negsuc n) p q = absurd (q .le)
 from-zero (negsuc m) (negsuc n) p q = absurd (p .le)
 
+-- What is at most a word up to a number is up to it too.
+pub up-to : (a b : ℤ) (n : ℕ) → a ≤ℤ b → b ≤ℤ pos n → a ≤ℤ pos n
+up-to (pos k) (pos m) n p q = le-of k n (omega (arith, of-le k m p, of-le m n q))
+up-to (pos k) (negsuc m) n p q = absurd (p .le)
+up-to (negsuc k) b n p q = leZ-yes tt
+
 -- The test for −1 says so.
 pub minus-one-of : (z : ℤ) → isMinusOne z ≡ true → z ≡ negsuc 0
 unfolding isMinusOne
