@@ -1,5 +1,5 @@
 -- `tensor_lifetimes::store` meets its contract: the entries so far are replaced.
-use Prim.Native.Nat.{_-_, _*_, _+_, _≤_}
+use Prim.Native.Nat.{ℕ, _-_, _*_, _+_, _≤_}
 use mathlib.Core.List.{List}
 use mathlib.Core.Path.{_≡_, sym, _∙_, ap}
 use native.Mathlib.Omega.{arith}
@@ -11,6 +11,7 @@ use mir.Facts.{toZ-pos}
 use mir.Syntax.{w32}
 use Rattle.bounded.specs.Replaced.{replaced, replaced-none, replaced-length}
 use Rattle.bounded.specs.TwoEach.{two-more}
+use Rattle.known_lifetimes.specs.declared.Lifetime.{Lifetime}
 use Rattle.tensor_lifetimes.specs.Gathered.{lifetimeIn, storedWord}
 use Rattle.tensor_lifetimes.proofs.store.Statement.{statement}
 use Rattle.tensor_lifetimes.proofs.store.Tie as tie
@@ -20,6 +21,11 @@ Inv-loop tensors lifetimes₀ gathered n tensor₀ lifetimes tensor = (lifetimes
 
 abbrev μ-loop : tie.MeasureT-loop
 μ-loop tensors lifetimes₀ gathered n tensor₀ lifetimes tensor = n - tensor .0
+
+-- with the two words of one tensor more
+stored-more : (gathered : List Lifetime) (t : ℕ) (lent : List ℤ) {xs : List ℤ} {first last : ℤ} → xs ≡ replaced (storedWord gathered) (t * 2) lent → first ≡ pos (lifetimeIn gathered t .first .0)
+    → last ≡ pos (lifetimeIn gathered t .end .0 - 1) → set (set xs (t * 2) first) (t * 2 + 1) last ≡ replaced (storedWord gathered) ((t + 1) * 2) lent
+stored-more gathered t lent e p q = (λ i. set (set (e i) (t * 2) (p i)) (t * 2 + 1) (q i)) ∙ two-more _ _ t lent
 
 -- the table is as long as it was
 long : (c : tie.At-loop Inv-loop μ-loop) → length (c .loop .lifetimes) ≡ length (now (c .before .args .lifetimes))
@@ -43,7 +49,7 @@ add-last-entry c = omega (arith, c .before .if1 .taken)
 sub-last : tie.Need-sub-last Inv-loop μ-loop
 sub-last c =
     let at = c .before .before .before .before in
-    at .before .pre .1 .ended (at .loop .tensor .0) (c .before .before .if1 .taken)
+    omega (arith, at .before .pre .1 .ended (at .loop .tensor .0) (c .before .before .if1 .taken))
 
 cast-lifetimes : tie.Need-cast-lifetimes Inv-loop μ-loop
 cast-lifetimes c =
@@ -78,11 +84,10 @@ loop-again c =
     let at = c .before .before .before .before .before in
     let gathered = at .before .args .t2 in
     let t = at .loop .tensor .0 in
-    let l = c .before .before .before .if1 .taken in (
-      rw (toZ-pos w32 {n = lifetimeIn gathered t .first .0} (omega (arith, at .before .pre .1 .first-small t l)), toZ-pos w32 {n = lifetimeIn gathered t .end .0 - 1} (omega (arith, at .before .pre .1 .end-small t l)))
-          (ap (λ (xs : List ℤ). set (set xs (t * 2) (pos (lifetimeIn gathered t .first .0))) (t * 2 + 1) (pos (lifetimeIn gathered t .end .0 - 1))) (at .loop .inv .0) ∙ two-more _ _ t _),
-      omega arith,
-    )
+    let l = c .before .before .before .if1 .taken in
+    let first = toZ-pos w32 {n = lifetimeIn gathered t .first .0} (omega (arith, at .before .pre .1 .first-small t l)) in
+    let last = toZ-pos w32 {n = lifetimeIn gathered t .end .0 - 1} (omega (arith, at .before .pre .1 .end-small t l)) in
+    (stored-more gathered t _ (at .loop .inv .0) first last, omega arith)
 
 same-length : tie.Need-same-length Inv-loop μ-loop
 same-length c = long (c .before .before)
