@@ -1,7 +1,7 @@
 -- What the tests of naming, of outputs and of reading say, over signed words and both ways: which use names a tensor by which operator, which makes it a
 -- model output, and which lets another use read.
 use Prim.Native.Nat.{ℕ, _<_}
-use mathlib.Core.Bool.{true, false, not, _&&_, _||_}
+use mathlib.Core.Bool.{Bool, true, false, not, _&&_, _||_}
 use mathlib.Core.List.{List}
 use mathlib.Core.Logic.{_⊎_, inl, inr}
 use mathlib.Core.Path.{_≡_, refl, sym, _∙_, ap, subst}
@@ -10,7 +10,7 @@ use lib.Dec.{ltb, eqb}
 use lib.IntN.{ℤ, pos}
 use lib.Signed.{_<ℤ_}
 use Rattle.bounded.specs.Boolean.{both, both-hold, contrary, either, refuted}
-use Rattle.bounded.specs.First.{firstIn, found, some-found, none-holds}
+use Rattle.bounded.specs.First.{firstIn, holdsBelow, found, some-found, none-holds}
 use Rattle.words.specs.Words.{natural}
 use Rattle.words.specs.WordOrders.{lt-of, of-lt}
 use Rattle.lifetime_rule.specs.GoodUses.{Natural}
@@ -127,30 +127,34 @@ module _ (u : List ℤ) (k : ℕ) where
 
 -- ---- the whole list
 
+-- Some use of the list does what a test says, where the test finds one,
+some-says : (u : List ℤ) {So : ℕ → Type 0} (p : ℕ → Bool) → ((k : ℕ) → k < count u → p k ≡ true → So k) → holdsBelow p (count u) ≡ true → Some u So
+some-says u p says e = let x = found p (count u) e in record { which = firstIn p 0 (count u); within = x .0; so = says _ (x .0) (x .1) }
+
+-- and the other way.
+some-of : (u : List ℤ) {So : ℕ → Type 0} (p : ℕ → Bool) → ((k : ℕ) → So k → p k ≡ true) → Some u So → holdsBelow p (count u) ≡ true
+some-of u p of x = some-found p (count u) (x .which) (x .within) (of (x .which) (x .so))
+
 module _ (u : List ℤ) (each : (k : ℕ) → k < count u → Natural u k) where
   -- The list names a tensor as the test says,
   pub named-says : (t m : ℕ) → named u t m ≡ true → Named u t m
   unfolding named
-  named-says t m e =
-      let x = found (λ k. names (useAt u k) t m) (count u) e in
-      record { which = firstIn (λ k. names (useAt u k) t m) 0 (count u); within = x .0; so = names-says u _ t m (each _ (x .0)) (x .1) }
+  named-says t m = some-says u (λ k. names (useAt u k) t m) (λ k l. names-says u k t m (each k l))
 
   -- and the other way.
   pub named-of : (t m : ℕ) → Named u t m → named u t m ≡ true
   unfolding named
-  named-of t m x = some-found (λ k. names (useAt u k) t m) (count u) (x .which) (x .within) (names-of u (x .which) t m (x .so))
+  named-of t m = some-of u (λ k. names (useAt u k) t m) (λ k. names-of u k t m)
 
   -- A tensor is a model output as the test says,
   pub output-says : (t : ℕ) → isOutput u t ≡ true → Output u t
   unfolding isOutput
-  output-says t e =
-      let x = found (λ k. givesOut (useAt u k) t) (count u) e in
-      record { which = firstIn (λ k. givesOut (useAt u k) t) 0 (count u); within = x .0; so = gives-out-says u _ t (each _ (x .0)) (x .1) }
+  output-says t = some-says u (λ k. givesOut (useAt u k) t) (λ k l. gives-out-says u k t (each k l))
 
   -- and the other way.
   pub output-of : (t : ℕ) → Output u t → isOutput u t ≡ true
   unfolding isOutput
-  output-of t x = some-found (λ k. givesOut (useAt u k) t) (count u) (x .which) (x .within) (gives-out-of u (x .which) t (x .so))
+  output-of t = some-of u (λ k. givesOut (useAt u k) t) (λ k. gives-out-of u k t)
 
   -- A use that reads, and not too early, is let by some use.
   pub read-let : (k : ℕ) → k < count u → word u k 2 ≡ pos reads → tooEarly u k ≡ false → Some u (Lets u k)
@@ -158,8 +162,7 @@ module _ (u : List ℤ) (each : (k : ℕ) → k < count u → Natural u k) where
   read-let k l e f =
       let role : eqb (natural (word u k 2)) reads ≡ true = eq-eqb _ _ (ap natural e) in
       let g : not (readable u (natural (word u k 1)) (natural (word u k 0))) ≡ false = rw role at f in
-      let y = found (λ j. lets (useAt u j) (natural (word u k 1)) (natural (word u k 0))) (count u) (not-false _ g) in
-      record { which = firstIn (λ j. lets (useAt u j) (natural (word u k 1)) (natural (word u k 0))) 0 (count u); within = y .0; so = lets-says u k _ (each k l) (each _ (y .0)) (y .1) }
+      some-says u (λ j. lets (useAt u j) (natural (word u k 1)) (natural (word u k 0))) (λ j m. lets-says u k j (each k l) (each j m)) (not-false _ g)
 
   -- So a use that none lets reads too early.
   pub early-of : (k : ℕ) → k < count u → TooEarly u k → tooEarly u k ≡ true

@@ -23,7 +23,7 @@ use Rattle.lifetime_rule.specs.FromUses.{lifetimesOf, finalLifetimes}
 use Rattle.lifetime_rule.specs.Naming.{Output}
 use Rattle.lifetime_rule.specs.SoundLifetimes.{Left, Lifetime, left, output-within, output-last}
 use Rattle.access_rule.specs.Accesses.{count}
-use Rattle.access_rule.specs.Demand3.{Lent, Reads, Writes, SameByte, ScriptDone, Demand3, demand3}
+use Rattle.access_rule.specs.Demand3.{Lent, Reads, Writes, SameByte, ScriptDone, demand3}
 use Rattle.access_rule.specs.GoodScripts.{LivingByte, GoodAccess, GoodScript}
 use Rattle.access_rule.specs.Script.{finalBytes}
 

@@ -6,7 +6,7 @@ use mathlib.Core.Path.{_≡_, refl, _∙_}
 use native.Mathlib.Omega.{arith}
 use borrow.Author.Tests.{eq-eqb, ne-eqb}
 use lib.Dec.{eqb}
-use Rattle.bounded.specs.Last.{lastIn, endIn, last-before-end, before-end, end-bound, end-after, end-none, end-same, end-either}
+use Rattle.bounded.specs.Last.{lastIn, last-before-end, before-end, end-bound, end-after, end-none, end-same, end-either}
 use Rattle.tensor_lifetimes.specs.Gathered.{endBy}
 
 -- It is no greater than the number of operators.

@@ -132,29 +132,7 @@ module _ (x : Use) (m : ℕ) where
   unfolding lets
   input-lets q = rw (own x, q)
 
--- ---- what the code makes of a use, by its role
-
-module _ (operators : ℕ) (l : Lifetime) (x : Use) (looked : ltb modelOutput (x .role) || ltb greatestOperators (x .operator .0) ≡ false) where
-  abbrev with-readable : ℕ → Lifetime
-  with-readable readable =
-      record { first = record { 0 = min (l .first .0) (x .operator .0) }; end = record { 0 = max (l .end .0) (x .operator .0 + 1) }; readable = record { 0 = readable } }
-
-  with-read : x .role ≡ reads → lifetimeWith l x operators ≡ with-readable (l .readable .0)
-  unfolding readableWith
-  with-read q = sym (lifetime-counts l x operators looked (λ z. omega (arith, q)) refl refl (rw q))
-
-  with-write : x .role ≡ writes → lifetimeWith l x operators ≡ with-readable (min (l .readable .0) (x .operator .0 + 1))
-  unfolding readableWith
-  with-write q = sym (lifetime-counts l x operators looked (λ z. omega (arith, q)) refl refl (rw q))
-
-  with-input : x .role ≡ modelInput → lifetimeWith l x operators ≡ with-readable 0
-  unfolding readableWith
-  with-input q = sym (lifetime-counts l x operators looked (λ z. omega (arith, q)) refl refl (rw q))
-
-  with-output : x .role ≡ modelOutput → lifetimeWith l x operators ≡ record { first = l .first; end = record { 0 = operators }; readable = l .readable }
-  with-output q = sym (lifetime-lasts l x operators looked q)
-
--- ---- a use of the tensor itself
+-- ---- a use of the tensor itself, and what the code makes of it
 
 module _ (operators tensors : ℕ) (u : List ℤ) (j : ℕ) (few : operators ≤ greatestOperators) where
   abbrev usage : Use
@@ -167,39 +145,35 @@ module _ (operators tensors : ℕ) (u : List ℤ) (j : ℕ) (few : operators ≤
   looked : Tests operators tensors usage → ltb modelOutput (usage .role) || ltb greatestOperators (usage .operator .0) ≡ false
   looked g = neither-holds _ _ (le-ltb _ _ (g .role)) (le-ltb greatestOperators (usage .operator .0) (omega (arith, g .operator, few)))
 
-  -- that names its tensor by its own operator, with what it lets read
-  by-operator : (g : Tests operators tensors usage) → (usage .role ≡ modelOutput → ⊥) → ((m : ℕ) → names usage (usage .tensor .0) m ≡ eqb (usage .operator .0) m)
-      → {readable : ℕ} → firstIn (lets usage (usage .tensor .0)) 0 operators ≡ readable
-      → lifetimeSoFar operators u (j + 1) (usage .tensor .0) ≡ with-readable operators known usage (looked g) (min (known .readable .0) readable)
-  by-operator g f n r =
-      adds operators u j (usage .tensor .0) (first-at _ operators _ (g .operator) n) (end-at _ _ operators _ (no-output usage f) (g .operator) n) r
+  -- one that names its tensor by its own operator, with what it lets read
+  by-operator : Tests operators tensors usage → (usage .role ≡ modelOutput → ⊥) → ((m : ℕ) → names usage (usage .tensor .0) m ≡ eqb (usage .operator .0) m)
+      → {readable : ℕ} → firstIn (lets usage (usage .tensor .0)) 0 operators ≡ readable → min (known .readable .0) readable ≡ readableWith (known .readable .0) usage
+      → lifetimeWith known usage operators ≡ lifetimeSoFar operators u (j + 1) (usage .tensor .0)
+  by-operator g f n r e =
+      sym
+      (adds operators u j (usage .tensor .0) (first-at _ operators _ (g .operator) n) (end-at _ _ operators _ (no-output usage f) (g .operator) n) r
+      ∙ lifetime-counts known usage operators (looked g) f refl refl e)
 
   by-role : Tests operators tensors usage → Role (usage .role) → lifetimeWith known usage operators ≡ lifetimeSoFar operators u (j + 1) (usage .tensor .0)
+  unfolding readableWith
   by-role g (reading q) =
       let all : min (known .readable .0) operators ≡ known .readable .0 = omega (arith, known-high operators u j (usage .tensor .0) .2) in
-      with-read operators known usage (looked g) q
-      ∙ sym
-      (by-operator g (λ z. omega (arith, q)) (λ m. acts-names usage m (inl q)) (first-none _ operators (λ m l. others-let usage m (inl q)))
-      ∙ ap (with-readable operators known usage (looked g)) all)
+      by-operator g (λ z. omega (arith, q)) (λ m. acts-names usage m (inl q)) (first-none _ operators (λ m l. others-let usage m (inl q))) (rw q all)
   by-role g (writing q) =
-      with-write operators known usage (looked g) q
-      ∙ sym (by-operator g (λ z. omega (arith, q)) (λ m. acts-names usage m (inr q)) (first-after _ operators _ (g .operator) (λ m. write-lets usage m q)))
+      by-operator g (λ z. omega (arith, q)) (λ m. acts-names usage m (inr q)) (first-after _ operators _ (g .operator) (λ m. write-lets usage m q)) (rw q)
   by-role g (input q) =
       let z : usage .operator .0 ≡ 0 = ⊎-elim (λ l. absurd (omega (arith, q))) (λ e. e) (g .zero-outside) in
       let all : min (known .readable .0) 0 ≡ 0 = omega arith in
-      with-input operators known usage (looked g) q
-      ∙ sym
-      (by-operator g (λ y. omega (arith, q)) (λ m. input-names usage m q z) (first-all _ operators (λ m. input-lets usage m q))
-      ∙ ap (with-readable operators known usage (looked g)) all)
+      by-operator g (λ y. omega (arith, q)) (λ m. input-names usage m q z) (first-all _ operators (λ m. input-lets usage m q)) (rw q all)
   by-role g (output q) =
       let h = known-high operators u j (usage .tensor .0) in
       let first : min (known .first .0) operators ≡ known .first .0 = omega (arith, h .0) in
       let end : max (known .end .0) operators ≡ operators = omega (arith, h .1) in
       let readable : min (known .readable .0) operators ≡ known .readable .0 = omega (arith, h .2) in
-      with-output operators known usage (looked g) q
-      ∙ sym
+      sym
       (adds operators u j (usage .tensor .0) (first-none _ operators (λ m l. output-names usage m q)) (end-output _ _ operators (output-given usage q)) (first-none _ operators (λ m l. others-let usage m (inr q)))
-      ∙ (λ i. record { first = record { 0 = first i }; end = record { 0 = end i }; readable = record { 0 = readable i } }))
+      ∙ (λ i. record { first = record { 0 = first i }; end = record { 0 = end i }; readable = record { 0 = readable i } })
+      ∙ lifetime-lasts known usage operators (looked g) q)
 
   -- A good use of the tensor adds what the code makes of it.
   pub own-tensor : good operators tensors usage ≡ true → lifetimeWith known usage operators ≡ lifetimeSoFar operators u (j + 1) (usage .tensor .0)

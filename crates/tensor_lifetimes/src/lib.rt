@@ -1,5 +1,5 @@
-// Lives from an operator list (document 01, "The desk's order of checks", Lives): one pass over the uses gathers what they say of each tensor, and one
-// more finds the lowest use that reads too early. The document's life is a lifetime here.
+// Lives from an operator list (document 01, "The desk's order of checks", Lives; of model outputs, document 02, order 2): one pass over the uses gathers
+// what they say of each tensor, and one more finds the lowest use that reads too early. The documents' life is a lifetime here.
 mod gather;
 
 ghost use Prim.Native.Nat.{_*_, _≤_};
@@ -104,7 +104,7 @@ fn store(tensors: u32, gathered: [Lifetime; GREATEST_TENSORS], lifetimes: &mut [
 }
 
 // Document 01's lives. Refused: 1, 2, 3, 5, 20, 21, in that order, and nothing changes; done: all zeros, and in the first entries of `lifetimes` the first
-// and the last operator of each tensor.
+// and the last operator of each tensor's life, which is the last of all for a model output.
 pub fn from_uses(operators: u32, tensors: u32, uses: &[i32], lifetimes: &mut [i32]) -> Answer
     ensures answer { λ r. ⌜ r ≡ lifetimesOf operators tensors (now (uses .entry)) (length (now (lifetimes .entry))) ⌝ }
     ensures table { λ _. ⌜ now (lifetimes .exit) ≡ finalLifetimes operators tensors (now (uses .entry)) (now (lifetimes .entry)) ⌝ }
