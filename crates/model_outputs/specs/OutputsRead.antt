@@ -2,7 +2,7 @@
 -- then covers a read of an output at the last moment."
 --
 -- The moments of a request table are the lives of a done operator list, and the inspector accepts a plan for it. Then each model output is alive at moment
--- T − 1, past which no row lives; a script of good touches that ends with reads of outputs at that moment is done; and each of these reads gives the last
+-- T − 1, past which no row lives; a script of which each touch is good or reads a byte of an output at that moment is done; and such a read gives the last
 -- byte written there through that output, whatever the others wrote between. It is demand 3 at such a table, over its own definitions: what is added is
 -- that those reads are good touches.
 use Prim.Native.Nat.{ℕ, _+_, _*_, _-_, _<_, _≤_}
@@ -46,11 +46,9 @@ pub record ReadsOutput (operators : ℕ) (u t s : List ℤ) (k : ℕ) : Type 0 w
   pub index-below : word s k 2 <ℤ word t tensor 0
   pub reads : Reads s k
 
--- The first n touches of the script are good, and each one after them reads an output at the last moment.
-pub record EndsWithReads (operators : ℕ) (u t s : List ℤ) (n : ℕ) : Type 0 where
-  pub some-before : n ≤ count s
-  pub before : (k : ℕ) → k < n → GoodAccess t s k
-  pub after : (k : ℕ) → n ≤ k → k < count s → ReadsOutput operators u t s k
+-- Each touch of the script is good, or reads a byte of a model output at the last moment.
+abbrev pub GoodOrReads : ℕ → List ℤ → List ℤ → List ℤ → Type 0
+GoodOrReads operators u t s = (k : ℕ) → k < count s → GoodAccess t s k ⊎ ReadsOutput operators u t s k
 
 -- The row is alive at the last moment, and it is its last.
 pub record LastAlive (operators : ℕ) (t : List ℤ) (r : ℕ) : Type 0 where
@@ -112,41 +110,36 @@ module _ (operators tensors : ℕ) (u lifetimes t : List ℤ) (f : FromLifetimes
       }
 
   -- So the whole script is good.
-  good-script : (s : List ℤ) (n : ℕ) → EndsWithReads operators u t s n → GoodScript t s
-  good-script s n x =
-      record {
-        moments = λ i j l m. rising i j l m (lt-or-le j n);
-        living = λ k m. alive k m (lt-or-le k n);
-      }
+  good-script : (s : List ℤ) → GoodOrReads operators u t s → GoodScript t s
+  good-script s x = record { moments = λ i j l m. rising i j l m (x j m); living = λ k m. alive k (x k m) }
     where
-      alive : (k : ℕ) → k < count s → (k < n) ⊎ (n ≤ k) → LivingByte t s k
-      alive k m (inl b) = x .before k b .living
-      alive k m (inr b) = read-living s k (x .after k b m)
+      alive : (k : ℕ) → GoodAccess t s k ⊎ ReadsOutput operators u t s k → LivingByte t s k
+      alive k (inl y) = y .living
+      alive k (inr y) = read-living s k y
 
-      rising : (i j : ℕ) → i < j → j < count s → (j < n) ⊎ (n ≤ j) → word s i 0 ≤ℤ word s j 0
-      rising i j l m (inl b) = x .before j b .moments i l
-      rising i j l m (inr b) =
-          subst (λ (z : ℤ). word s i 0 ≤ℤ z) (sym (x .after j b m .moment)) (no-later s i (alive i (omega arith) (lt-or-le i n)))
+      rising : (i j : ℕ) → i < j → j < count s → GoodAccess t s j ⊎ ReadsOutput operators u t s j → word s i 0 ≤ℤ word s j 0
+      rising i j l m (inl y) = y .moments i l
+      rising i j l m (inr y) = subst (λ (z : ℤ). word s i 0 ≤ℤ z) (sym (y .moment)) (no-later s i (alive i (x i (omega arith))))
 
 -- ---- the script
 
 -- What the script answers and leaves.
-pub record OutputsRead (g : ℕ) (t : List ℤ) (space : ℕ) (o s : List ℤ) (arena bytes : List ℕ) (n : ℕ) : Type 0 where
+pub record OutputsRead (g operators : ℕ) (u t : List ℤ) (space : ℕ) (o s : List ℤ) (arena bytes : List ℕ) : Type 0 where
   -- it is done
   pub done : ScriptDone g t space o s arena bytes
-  -- and each read after the first n touches gives the last byte written there through that same output
-  pub last-written : (j k v : ℕ) → n ≤ k → k < count s → j < k → Writes s j v → SameByte s j k
+  -- and a read of an output at the last moment gives the last byte written there through that same output
+  pub last-written : (j k v : ℕ) → j < k → k < count s → ReadsOutput operators u t s k → Writes s j v → SameByte s j k
       → ((i w : ℕ) → j < i → i < k → Writes s i w → SameByte s i k → ⊥) → getD (finalBytes g t space o s arena bytes) k 0 ≡ v
 
 -- The law, from demand 3.
-pub outputs-read : (g operators tensors : ℕ) (u lifetimes t : List ℤ) (space : ℕ) (o s : List ℤ) (arena bytes : List ℕ) (n : ℕ) → 0 < g
-    → FromLifetimes operators tensors u lifetimes t → Lent g t space o s arena bytes → EndsWithReads operators u t s n → OutputsRead g t space o s arena bytes n
-outputs-read g operators tensors u lifetimes t space o s arena bytes n h f l x =
+pub outputs-read : (g operators tensors : ℕ) (u lifetimes t : List ℤ) (space : ℕ) (o s : List ℤ) (arena bytes : List ℕ) → 0 < g
+    → FromLifetimes operators tensors u lifetimes t → Lent g t space o s arena bytes → GoodOrReads operators u t s → OutputsRead g operators u t space o s arena bytes
+outputs-read g operators tensors u lifetimes t space o s arena bytes h f l x =
     let d = demand3 g t space o s arena bytes h l in
-    let done = d .done-exactly .1 (good-script operators tensors u lifetimes t f s n x) in
-    record { done = done; last-written = λ j k v b m i w same none. d .own-byte done j k v i m (x .after k b m .reads) w same none }
+    let done = d .done-exactly .1 (good-script operators tensors u lifetimes t f s x) in
+    record { done = done; last-written = λ j k v b m r w same none. d .own-byte done j k v b m (r .reads) w same none }
 
 -- And at the grid of the entry points, whose contracts are about the same definitions.
-pub outputs-read-at-grid : (operators tensors : ℕ) (u lifetimes t : List ℤ) (space : ℕ) (o s : List ℤ) (arena bytes : List ℕ) (n : ℕ)
-    → FromLifetimes operators tensors u lifetimes t → Lent grid t space o s arena bytes → EndsWithReads operators u t s n → OutputsRead grid t space o s arena bytes n
-outputs-read-at-grid operators tensors u lifetimes t space o s arena bytes n = outputs-read grid operators tensors u lifetimes t space o s arena bytes n (omega arith)
+pub outputs-read-at-grid : (operators tensors : ℕ) (u lifetimes t : List ℤ) (space : ℕ) (o s : List ℤ) (arena bytes : List ℕ)
+    → FromLifetimes operators tensors u lifetimes t → Lent grid t space o s arena bytes → GoodOrReads operators u t s → OutputsRead grid operators u t space o s arena bytes
+outputs-read-at-grid operators tensors u lifetimes t space o s arena bytes = outputs-read grid operators tensors u lifetimes t space o s arena bytes (omega arith)
