@@ -97,12 +97,13 @@ module _ (operators tensors : ℕ) (u lifetimes t : List ℤ) (f : FromLifetimes
   read-living : (s : List ℤ) (k : ℕ) → ReadsOutput operators u t s k → LivingByte t s k
   read-living s k x =
       let a = output-alive (x .tensor) (x .output) in
+      let lasts : word s k 0 ≤ℤ word t (x .tensor) 2 = subst (λ (z : ℤ). z ≤ℤ word t (x .tensor) 2) (sym (x .moment ∙ sym (a .lasting))) (≤ℤ-refl (word t (x .tensor) 2)) in
       record {
         row = x .tensor;
         names = x .row;
         named = a .is-row;
         begun = subst (λ (z : ℤ). word t (x .tensor) 1 ≤ℤ z) (sym (x .moment)) (a .begun);
-        lasting = subst (λ (z : ℤ). z ≤ℤ word t (x .tensor) 2) (sym (x .moment ∙ sym (a .lasting))) (≤ℤ-refl (word t (x .tensor) 2));
+        lasting = lasts;
         index-from = x .index-from;
         index-below = x .index-below;
         value-from = subst (λ (z : ℤ). negsuc 0 ≤ℤ z) (sym (x .reads)) (≤ℤ-refl (negsuc 0));

@@ -4,7 +4,6 @@ use mathlib.Core.Path.{_≡_, sym, _∙_, ap}
 use denote.Ref.{now}
 use borrow.Author.Needs.{needs}
 use borrow.Author.Tests.{lt-ltb, le-ltb}
-use lib.ListN.{length}
 use Rattle.word_bytes.specs.Bytes.{wordOf}
 use Rattle.bounded.specs.Causes.{given, next, none-left}
 use Rattle.offline_rule.specs.Answers.{read-given}

@@ -6,7 +6,6 @@ use native.Mathlib.Omega.{arith}
 use denote.Ref.{now}
 use borrow.Author.Needs.{needs}
 use borrow.Rule.Slice.PartMut.{putMid}
-use lib.IntN.{pos}
 use lib.ListN.{length}
 use mir.Facts.{toZ-pos}
 use mir.Syntax.{w32}

@@ -6,7 +6,7 @@ use native.Mathlib.Omega.{arith}
 use denote.Ref.{now}
 use borrow.Author.Needs.{needs}
 use lib.IntN.{ℤ}
-use lib.ListN.{length, take, drop, length-take}
+use lib.ListN.{length, drop}
 use lib.Seq.{length-take-le}
 use Rattle.answer.specs.Answer.{numberOf}
 use Rattle.offline_rule.specs.Answers.{Readable, read-says, done-read, refusal-keeps-offsets}
