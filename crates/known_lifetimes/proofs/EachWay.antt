@@ -1,6 +1,6 @@
 -- What one use adds, by each way through the code.
 use Prim.Native.Nat.{ℕ, _+_, _≤_, min, max}
-use mathlib.Core.Bool.{Bool, true, false, _&&_, _||_}
+use mathlib.Core.Bool.{Bool, true, false, _&&_}
 use mathlib.Core.Path.{_≡_, refl}
 use native.Mathlib.Omega.{arith}
 use borrow.Author.Tests.{ltb-true, ltb-false, eq-eqb, ne-eqb}
@@ -8,7 +8,7 @@ use lib.Dec.{ltb, eqb}
 use Rattle.bounded.specs.Boolean.{both, neither}
 use Rattle.lifetime_rule.specs.Uses.{writes, modelInput, modelOutput, greatestOperators}
 use Rattle.lifetime_rule.specs.declared.Use.{Use}
-use Rattle.known_lifetimes.specs.OneUseMore.{readableWith, lifetimeWith}
+use Rattle.known_lifetimes.specs.OneUseMore.{readableWith, saysNothing, lifetimeWith}
 use Rattle.known_lifetimes.specs.declared.Lifetime.{Lifetime}
 
 -- The lowest operator that may read the tensor, as each way through the code has it.
@@ -32,17 +32,17 @@ module _ (r : ℕ) (x : Use) where
       go true q = omega (arith, ltb-false (x .operator .0 + 1) r q)
       go false q = refl
 
--- A use that is looked at has an operator within the limit.
-pub within-limit : (x : Use) → ltb modelOutput (x .role) || ltb greatestOperators (x .operator .0) ≡ false → x .operator .0 ≤ greatestOperators
+-- A use that says something has an operator within the limit.
+pub within-limit : (x : Use) → saysNothing x ≡ false → x .operator .0 ≤ greatestOperators
 within-limit x e = ltb-false _ _ (neither (ltb modelOutput (x .role)) (ltb greatestOperators (x .operator .0)) e .1)
 
 -- The whole of what is known, as each way through the code has it.
 module _ (l : Lifetime) (x : Use) (operators : ℕ) where
-  pub lifetime-stays : ltb modelOutput (x .role) || ltb greatestOperators (x .operator .0) ≡ true → l ≡ lifetimeWith l x operators
+  pub lifetime-stays : saysNothing x ≡ true → l ≡ lifetimeWith l x operators
   unfolding lifetimeWith
   lifetime-stays e = rw (e, lifetimeWith)
 
-  module _ (e : ltb modelOutput (x .role) || ltb greatestOperators (x .operator .0) ≡ false) where
+  module _ (e : saysNothing x ≡ false) where
     pub lifetime-lasts : x .role ≡ modelOutput → _≡_ {A = Lifetime} (record { first = l .first; end = record { 0 = operators }; readable = l .readable }) (lifetimeWith l x operators)
     unfolding lifetimeWith
     lifetime-lasts q = rw (e, lifetimeWith, eq-eqb (x .role) modelOutput q)

@@ -65,8 +65,9 @@ pub fn lifetime_with(lifetime: Lifetime, usage: Use, operators: u32) -> Lifetime
         return lifetime;
     }
     if usage.role == MODEL_OUTPUT {
+        let end = Moment(operators);
         let mut lasting = lifetime;
-        lasting.end.0 = operators;
+        lasting.end = end;
         return lasting;
     }
     let first = first_with(lifetime, usage.operator);

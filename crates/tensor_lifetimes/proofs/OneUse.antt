@@ -17,7 +17,7 @@ use Rattle.lifetime_rule.specs.declared.Use.{Use}
 use Rattle.tensor_lifetimes.specs.Gathered.{namedSoFar, outputSoFar, endBy, readableSoFar, lifetimeSoFar}
 use Rattle.tensor_lifetimes.proofs.LifetimeEnds.{end-high, end-more, end-alike, end-output, end-at, end-nothing}
 use Rattle.known_lifetimes.proofs.EachWay.{lifetime-lasts, lifetime-counts}
-use Rattle.known_lifetimes.specs.OneUseMore.{readableWith, lifetimeWith}
+use Rattle.known_lifetimes.specs.OneUseMore.{readableWith, saysNothing, lifetimeWith}
 use Rattle.known_lifetimes.specs.declared.Lifetime.{Lifetime}
 
 -- ---- one use more
@@ -141,9 +141,9 @@ module _ (operators tensors : ℕ) (u : List ℤ) (j : ℕ) (few : operators ≤
   abbrev known : Lifetime
   known = lifetimeSoFar operators u j (usage .tensor .0)
 
-  -- a good use is looked at
-  looked : Tests operators tensors usage → ltb modelOutput (usage .role) || ltb greatestOperators (usage .operator .0) ≡ false
-  looked g = neither-holds _ _ (le-ltb _ _ (g .role)) (le-ltb greatestOperators (usage .operator .0) (omega (arith, g .operator, few)))
+  -- a good use says something
+  heard : Tests operators tensors usage → saysNothing usage ≡ false
+  heard g = neither-holds _ _ (le-ltb _ _ (g .role)) (le-ltb greatestOperators (usage .operator .0) (omega (arith, g .operator, few)))
 
   -- one that names its tensor by its own operator, with what it lets read
   by-operator : Tests operators tensors usage → (usage .role ≡ modelOutput → ⊥) → ((m : ℕ) → names usage (usage .tensor .0) m ≡ eqb (usage .operator .0) m)
@@ -152,7 +152,7 @@ module _ (operators tensors : ℕ) (u : List ℤ) (j : ℕ) (few : operators ≤
   by-operator g f n r e =
       sym
       (adds operators u j (usage .tensor .0) (first-at _ operators _ (g .operator) n) (end-at _ _ operators _ (no-output usage f) (g .operator) n) r
-      ∙ lifetime-counts known usage operators (looked g) f refl refl e)
+      ∙ lifetime-counts known usage operators (heard g) f refl refl e)
 
   by-role : Tests operators tensors usage → Role (usage .role) → lifetimeWith known usage operators ≡ lifetimeSoFar operators u (j + 1) (usage .tensor .0)
   unfolding readableWith
@@ -173,7 +173,7 @@ module _ (operators tensors : ℕ) (u : List ℤ) (j : ℕ) (few : operators ≤
       sym
       (adds operators u j (usage .tensor .0) (first-none _ operators (λ m l. output-names usage m q)) (end-output _ _ operators (output-given usage q)) (first-none _ operators (λ m l. others-let usage m (inr q)))
       ∙ (λ i. record { first = record { 0 = first i }; end = record { 0 = end i }; readable = record { 0 = readable i } })
-      ∙ lifetime-lasts known usage operators (looked g) q)
+      ∙ lifetime-lasts known usage operators (heard g) q)
 
   -- A good use of the tensor adds what the code makes of it.
   pub own-tensor : good operators tensors usage ≡ true → lifetimeWith known usage operators ≡ lifetimeSoFar operators u (j + 1) (usage .tensor .0)

@@ -9,9 +9,9 @@ returns c = let a = c .before .before .before .args in lifetime-stays (a .lifeti
 
 returns-2 : tie.Need-returns-2
 returns-2 c =
-    let looked = c .before .before .before in
-    let a = looked .before .before .before .args in
-    lifetime-lasts (a .lifetime) (a .usage) (a .operators) (looked .if1 .left) (c .before .if2 .taken)
+    let heard = c .before .before in
+    let a = heard .before .before .before .args in
+    lifetime-lasts (a .lifetime) (a .usage) (a .operators) (heard .if1 .left) (c .if2 .taken)
 
 first-with-requires : tie.Need-first-with-requires
 first-with-requires c κs = search needs
@@ -26,9 +26,9 @@ returns-3 : tie.Need-returns-3
 returns-3 c =
     let end = c .before in
     let first = end .before in
-    let looked = first .before .before .before in
-    let a = looked .before .before .before .args in
-    lifetime-counts (a .lifetime) (a .usage) (a .operators) (looked .if1 .left) (first .before .if2 .left) (first .first-with .ensures) (end .end-with .ensures) (c .readable-with .ensures)
+    let heard = first .before .before .before in
+    let a = heard .before .before .before .args in
+    lifetime-counts (a .lifetime) (a .usage) (a .operators) (heard .if1 .left) (first .before .if2 .left) (first .first-with .ensures) (end .end-with .ensures) (c .readable-with .ensures)
 
 pub lifetime-with-spec : {M : Type 1} → statement M
 lifetime-with-spec = tie.close (tie.spec returns returns-2 first-with-requires end-with-requires readable-with-requires returns-3)
