@@ -6,3 +6,4 @@ pub mod GoodUses
 pub mod Naming
 pub mod SoundLifetimes
 pub mod Outcomes
+pub mod OnlyOutputs

@@ -54,6 +54,10 @@ pub record TooEarly (u : List ℤ) (k : ℕ) : Type 0 where
 
 -- ---- one use
 
+-- A word that is a natural number is the one for which it passes the test.
+said : {z : ℤ} {n : ℕ} → z ≡ pos (natural z) → eqb (natural z) n ≡ true → z ≡ pos n
+said e q = e ∙ ap pos (eqb-true _ _ q)
+
 module _ (u : List ℤ) (k : ℕ) where
   -- A use that names a tensor passes the test,
   pub names-of : (t m : ℕ) → Names u t m k → names (useAt u k) t m ≡ true
@@ -68,23 +72,17 @@ module _ (u : List ℤ) (k : ℕ) where
   names-says t m n e =
       let x = useAt u k in
       let a = both (eqb (x .tensor .0) t) (((eqb (x .role) reads || eqb (x .role) writes) && eqb (x .operator .0) m) || (eqb (x .role) modelInput && eqb 0 m)) e in
-      how (n .tensor-is ∙ ap pos (eqb-true _ _ (a .0))) (either _ _ (a .1))
+      how (said (n .tensor-is) (a .0)) (either _ _ (a .1))
     where
-      role : {r : ℕ} → eqb (natural (word u k 2)) r ≡ true → word u k 2 ≡ pos r
-      role q = n .role-is ∙ ap pos (eqb-true _ _ q)
-
-      operator : eqb (natural (word u k 0)) m ≡ true → word u k 0 ≡ pos m
-      operator q = n .operator-is ∙ ap pos (eqb-true _ _ q)
-
       act : word u k 1 ≡ pos t → eqb (natural (word u k 0)) m ≡ true → (eqb (natural (word u k 2)) reads ≡ true) ⊎ (eqb (natural (word u k 2)) writes ≡ true) → Names u t m k
-      act w o (inl q) = by-reading (role q) w (operator o)
-      act w o (inr q) = by-writing (role q) w (operator o)
+      act w o (inl q) = by-reading (said (n .role-is) q) w (said (n .operator-is) o)
+      act w o (inr q) = by-writing (said (n .role-is) q) w (said (n .operator-is) o)
 
       how : word u k 1 ≡ pos t
           → ((eqb (natural (word u k 2)) reads || eqb (natural (word u k 2)) writes) && eqb (natural (word u k 0)) m ≡ true) ⊎ (eqb (natural (word u k 2)) modelInput && eqb 0 m ≡ true)
           → Names u t m k
       how w (inl q) = let x = both (eqb (natural (word u k 2)) reads || eqb (natural (word u k 2)) writes) (eqb (natural (word u k 0)) m) q in act w (x .1) (either _ _ (x .0))
-      how w (inr q) = let x = both (eqb (natural (word u k 2)) modelInput) (eqb 0 m) q in as-input (role (x .0)) w (sym (eqb-true 0 m (x .1)))
+      how w (inr q) = let x = both (eqb (natural (word u k 2)) modelInput) (eqb 0 m) q in as-input (said (n .role-is) (x .0)) w (sym (eqb-true 0 m (x .1)))
 
   -- A use that makes a tensor a model output passes the test,
   pub gives-out-of : (t : ℕ) → GivesOut u t k → givesOut (useAt u k) t ≡ true
@@ -97,7 +95,7 @@ module _ (u : List ℤ) (k : ℕ) where
   gives-out-says t n e =
       let x = useAt u k in
       let a = both (eqb (x .tensor .0) t) (eqb (x .role) modelOutput) e in
-      record { role = n .role-is ∙ ap pos (eqb-true _ _ (a .1)); tensor = n .tensor-is ∙ ap pos (eqb-true _ _ (a .0)) }
+      record { role = said (n .role-is) (a .1); tensor = said (n .tensor-is) (a .0) }
 
   -- A use that passes the other test lets another read,
   pub lets-says : (j : ℕ) → Natural u k → Natural u j → lets (useAt u j) (natural (word u k 1)) (natural (word u k 0)) ≡ true → Lets u k j
@@ -105,16 +103,13 @@ module _ (u : List ℤ) (k : ℕ) where
   lets-says j n i e =
       let x = useAt u j in
       let a = both (eqb (x .tensor .0) (natural (word u k 1))) (eqb (x .role) modelInput || (eqb (x .role) writes && ltb (x .operator .0) (natural (word u k 0)))) e in
-      how (i .tensor-is ∙ ap pos (eqb-true _ _ (a .0)) ∙ sym (n .tensor-is)) (either _ _ (a .1))
+      how (said (i .tensor-is) (a .0) ∙ sym (n .tensor-is)) (either _ _ (a .1))
     where
-      role : {r : ℕ} → eqb (natural (word u j 2)) r ≡ true → word u j 2 ≡ pos r
-      role q = i .role-is ∙ ap pos (eqb-true _ _ q)
-
       how : word u j 1 ≡ word u k 1 → (eqb (natural (word u j 2)) modelInput ≡ true) ⊎ (eqb (natural (word u j 2)) writes && ltb (natural (word u j 0)) (natural (word u k 0)) ≡ true) → Lets u k j
-      how w (inl q) = of-input (role q) w
+      how w (inl q) = of-input (said (i .role-is) q) w
       how w (inr q) =
           let x = both (eqb (natural (word u j 2)) writes) (ltb (natural (word u j 0)) (natural (word u k 0))) q in
-          after-writing (role (x .0)) w
+          after-writing (said (i .role-is) (x .0)) w
           (subst (λ (z : ℤ). z <ℤ word u k 0) (sym (i .operator-is)) (subst (λ (z : ℤ). pos (natural (word u j 0)) <ℤ z) (sym (n .operator-is)) (lt-of _ _ (ltb-true _ _ (x .1)))))
 
   -- and the other way.
@@ -175,6 +170,6 @@ module _ (u : List ℤ) (each : (k : ℕ) → k < count u → Natural u k) where
       let x = both (eqb (natural (word u k 2)) reads) (not (readable u (natural (word u k 1)) (natural (word u k 0)))) e in
       let none = none-holds (λ j. lets (useAt u j) (natural (word u k 1)) (natural (word u k 0))) (count u) (not-true _ (x .1)) in
       record {
-        is-read = each k l .role-is ∙ ap pos (eqb-true _ _ (x .0));
+        is-read = said (each k l .role-is) (x .0);
         not-let = λ s. contrary (lets-of u k (s .which) (each k l) (each _ (s .within)) (s .so)) (none (s .which) (s .within));
       }

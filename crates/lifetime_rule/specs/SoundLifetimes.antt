@@ -2,18 +2,17 @@
 -- names the tensor, and its last one does too or is T − 1, for a model output; no read stands without role 2 or a write by an earlier operator. So a life
 -- is neither too short nor too long, and its ends are good moments for a row of the request table.
 use Prim.Native.Nat.{ℕ, _+_, _*_, _-_, _<_, _≤_}
-use mathlib.Core.Bool.{Bool, true, false}
+use mathlib.Core.Bool.{Bool, true, false, not}
 use mathlib.Core.List.{List}
 use mathlib.Core.Logic.{⊎-elim}
 use mathlib.Core.Path.{_≡_, refl, sym, _∙_, ap, subst}
 use native.Mathlib.Omega.{arith}
-use borrow.Author.Tests.{not-false}
+use borrow.Author.Tests.{not-true, not-false}
 use lib.IntN.{ℤ, pos}
 use lib.ListN.{length}
 use lib.Signed.{_≤ℤ_}
 use Rattle.answer.specs.Answer.{numberOf, doneWith}
-use Rattle.bounded.specs.Boolean.{contrary, lt-or-le}
-use Rattle.bounded.specs.Last.{lastIn}
+use Rattle.bounded.specs.Boolean.{contrary, refuted, lt-or-le}
 use Rattle.bounded.specs.Lowest.{Lowest, Highest, lowest-of, highest-of}
 use Rattle.bounded.specs.Replaced.{replaced-length, replaced-at, replaced-past}
 use Rattle.bounded.specs.TwoEach.{two-first, two-second}
@@ -69,40 +68,39 @@ module _ (operators : ℕ) (u : List ℤ) (each : (k : ℕ) → k < count u → 
   -- and that of any other at the highest operator that names the tensor.
   pub last-is-highest : (Output u t → ⊥) → Highest (Named u t) operators (lastOf operators u t)
   unfolding unnamed lastOf
-  last-is-highest f = go (isOutput u t) refl
-    where
-      go : (b : Bool) → isOutput u t ≡ b → Highest (Named u t) operators (elim b [ true ↦ operators - 1 | false ↦ lastIn (named u t) operators ])
-      go true q = absurd (f (output-says u each t q))
-      go false q = highest-of (named u t) operators (named-says u each t) (named-of u each t) (not-false _ e)
+  last-is-highest f =
+      let none : isOutput u t ≡ false = not-true _ (refuted (not (isOutput u t)) (λ q. f (output-says u each t (not-false _ q)))) in
+      rw (none, lastOf) (highest-of (named u t) operators (named-says u each t) (named-of u each t) (not-false _ e))
 
-  -- How it ends, and that no operator that names the tensor comes later.
-  ending : (b : Bool) → isOutput u t ≡ b → Ends operators u t (lastOf operators u t) × ((m : ℕ) → m < operators → Named u t m → m ≤ lastOf operators u t)
-  ending true q = let x = output-says u each t q in (as-output x (output-lasts x), λ m l n. omega (arith, output-lasts x))
-  ending false q =
-      let f : Output u t → ⊥ = λ x. contrary (output-of u each t x) q in
+  -- So it ends as it must,
+  ending : (b : Bool) → isOutput u t ≡ b → Ends operators u t (lastOf operators u t)
+  ending true q = let x = output-says u each t q in as-output x (output-lasts x)
+  ending false q = let f : Output u t → ⊥ = λ x. contrary (output-of u each t x) q in by-naming f (last-is-highest f .here)
+
+  -- with one of the operators, and with none before one that names the tensor.
+  bounds : Ends operators u t (lastOf operators u t) → (lastOf operators u t < operators) × ((m : ℕ) → m < operators → Named u t m → m ≤ lastOf operators u t)
+  bounds (as-output x q) = (omega arith, λ m l n. omega arith)
+  bounds (by-naming f n) =
       let h = last-is-highest f in
-      (by-naming f (h .here), λ m l n. ⊎-elim (λ k. absurd (h .above m k l n)) (λ k. k) (lt-or-le (lastOf operators u t) m))
+      (h .within, λ m l k. ⊎-elim (λ above. absurd (h .above m above l k)) (λ below. below) (lt-or-le (lastOf operators u t) m))
 
   -- So a named tensor lives, where every operator that names it is one of the operators.
   pub named-lifetime : ((m k : ℕ) → k < count u → Names u t m k → m < operators) → Lifetime operators u t (firstOf operators u t) (lastOf operators u t)
   named-lifetime low =
-      let x = ending (isOutput u t) refl in
+      let ends = ending (isOutput u t) refl in
+      let last = bounds ends in
       record {
-        rising = x .1 (firstOf operators u t) (first-is-lowest .within) (first-is-lowest .here);
-        below = ends-below (x .0);
+        rising = last .1 (firstOf operators u t) (first-is-lowest .within) (first-is-lowest .here);
+        below = last .0;
         holds = λ m k w n.
             let named-there : Named u t m = record { which = k; within = w; so = n } in
-            (not-below m named-there, x .1 m (low m k w n) named-there);
+            (not-below m named-there, last .1 m (low m k w n) named-there);
         first-named = first-is-lowest .here;
-        ends = x .0;
+        ends = ends;
       }
     where
       not-below : (m : ℕ) → Named u t m → firstOf operators u t ≤ m
       not-below m n = ⊎-elim (λ l. absurd (first-is-lowest .below m l n)) (λ l. l) (lt-or-le m (firstOf operators u t))
-
-      ends-below : Ends operators u t (lastOf operators u t) → lastOf operators u t < operators
-      ends-below (as-output x q) = omega arith
-      ends-below (by-naming f n) = last-is-highest f .within
 
 -- ---- a done list
 
@@ -150,11 +148,8 @@ module _ (operators tensors : ℕ) (u lifetimes : List ℤ) (d : lifetimesOf ope
       omega (arith, y .tensor, ap natural (x .so .tensor))
 
   pub output-last : (t : ℕ) → Output u t → left .last t + 1 ≡ operators
-  output-last t x = go (left .lifetime t (output-within t x) .ends)
-    where
-      go : Ends operators u t (left .last t) → left .last t + 1 ≡ operators
-      go (as-output y q) = q
-      go (by-naming f n) = absurd (f x)
+  unfolding left
+  output-last t x = output-lasts operators u all-natural t (done .all-named t (output-within t x)) x
 
   -- The ends of a life are good moments for a request row: "0 ≤ first ≤ last ≤ 65,535".
   pub good-moments : (t : ℕ) → t < tensors → (first last : ℤ) → first ≡ wordAt (finalLifetimes operators tensors u lifetimes) (t * 2) → last ≡ wordAt (finalLifetimes operators tensors u lifetimes) (t * 2 + 1)

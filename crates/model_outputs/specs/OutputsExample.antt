@@ -1,9 +1,9 @@
--- An example of the law, by which its premises are seen to hold together: document 01's lives, as order 2 corrects them, of 16 bytes a tensor. Operator 0
--- writes tensor 1, a model output, and names it no more; operator 1 writes tensor 2. At the last moment the output is read, and its byte is the one that
+-- An example of the law, by which its premises are seen to hold together: the least model whose early output could be planned over. Operator 0 writes
+-- tensor 0, a model output, which no operator names again; operator 1 writes tensor 1. At the last moment the output is read, and its byte is the one that
 -- operator 0 wrote.
 use Prim.Native.Nat.{ℕ, zero, suc, _*_, _+_, _<_, _≤_}
 use mathlib.Core.Bool.{true}
-use mathlib.Core.List.{List, [], _∷_, _++_}
+use mathlib.Core.List.{List, [], _∷_}
 use mathlib.Core.Logic.{inl, inr}
 use mathlib.Core.Path.{_≡_, refl, ap}
 use native.Mathlib.Omega.{arith}
@@ -27,7 +27,7 @@ use Rattle.inspection_rule.specs.ExactRule.{passed-says, passed-acceptable}
 use Rattle.inspection_rule.specs.Inspect.{moved, offGrid, proposedNeed, inspectOf}
 use Rattle.lifetime_rule.specs.FromUses.{outOfLimits, lifetimesOf, finalLifetimes}
 use Rattle.lifetime_rule.specs.Lifetimes.{names, named, givesOut, isOutput, firstOf, lastOf, unnamed, lets, readable, tooEarly}
-use Rattle.lifetime_rule.specs.Uses.{reads, writes, modelInput, modelOutput, useAt, good as goodUse}
+use Rattle.lifetime_rule.specs.Uses.{writes, modelOutput, useAt, good as goodUse}
 use Rattle.access_rule.specs.Accesses.{greatestAccesses, count, access, momentBefore, reaches, good as goodAccess}
 use Rattle.access_rule.specs.Demand3.{Writes, SameByte, Lent}
 use Rattle.access_rule.specs.GoodScripts.{GoodAccess, access-says}
@@ -35,64 +35,55 @@ use Rattle.access_rule.specs.Script.{finalBytes}
 use Rattle.model_outputs.specs.OutputsRead.{FromLifetimes, ReadsOutput, GoodOrReads, outputs-read-at-grid}
 
 -- Operator, tensor, role.
-abbrev one-use : ℕ → ℕ → ℕ → List ℤ
-one-use operator tensor role = pos operator ∷ pos tensor ∷ pos role ∷ []
-
 abbrev uses : List ℤ
-uses =
-    one-use 0 0 modelInput
-    ++ (one-use 0 0 reads ++ (one-use 0 1 writes ++ (one-use 0 1 modelOutput ++ (one-use 1 0 reads ++ (one-use 1 2 writes ++ one-use 2 2 reads)))))
+uses = pos 0 ∷ pos 0 ∷ pos writes ∷ pos 0 ∷ pos 0 ∷ pos modelOutput ∷ pos 1 ∷ pos 1 ∷ pos writes ∷ []
 
--- Room for three lives.
+-- Room for two lives.
 abbrev lifetimes : List ℤ
-lifetimes = replicate 6 (pos 0)
+lifetimes = replicate 4 (pos 0)
 
--- 16 bytes, alive from one moment to another, placed by us.
-abbrev sixteen : ℕ → ℕ → List ℤ
-sixteen first last = pos 16 ∷ pos first ∷ pos last ∷ negsuc 0 ∷ []
-
+-- Size, first moment, last moment; placed by us.
 abbrev table : List ℤ
-table = sixteen 0 1 ++ (sixteen 0 2 ++ sixteen 1 2)
+table = pos 16 ∷ pos 0 ∷ pos 1 ∷ negsuc 0 ∷ pos 16 ∷ pos 1 ∷ pos 1 ∷ negsuc 0 ∷ []
 
 abbrev offsets : List ℤ
-offsets = pos 0 ∷ pos 16 ∷ pos 32 ∷ []
+offsets = pos 0 ∷ pos 16 ∷ []
 
--- Moment, row, index, value: byte 3 of the output is written, byte 3 of another tensor, and at the last moment that of the output is read.
+-- Moment, row, index, value: byte 3 of the output is written, byte 3 of the other tensor, and at the last moment that of the output is read.
 abbrev script : List ℤ
-script = pos 0 ∷ pos 1 ∷ pos 3 ∷ pos 7 ∷ pos 1 ∷ pos 2 ∷ pos 3 ∷ pos 8 ∷ pos 2 ∷ pos 1 ∷ pos 3 ∷ negsuc 0 ∷ []
+script = pos 0 ∷ pos 0 ∷ pos 3 ∷ pos 7 ∷ pos 1 ∷ pos 1 ∷ pos 3 ∷ pos 8 ∷ pos 1 ∷ pos 0 ∷ pos 3 ∷ negsuc 0 ∷ []
 
 abbrev arena : List ℕ
-arena = replicate 48 85
+arena = replicate 32 85
 
 abbrev bytes : List ℕ
 bytes = replicate 3 170
 
 -- The table has the lives of the uses.
-from-lifetimes : FromLifetimes 3 3 uses lifetimes table
+from-lifetimes : FromLifetimes 2 2 uses lifetimes table
 unfolding firstFrom firstIn holdsBelow lastIn replaced twoEach natural useAt goodUse names named givesOut isOutput firstOf lastOf unnamed lets readable tooEarly outOfLimits lifetimesOf finalLifetimes
 from-lifetimes =
     record {
       done = refl;
-      row-each = leb-true 3 (rows table) refl;
+      row-each = leb-true 2 (rows table) refl;
       first-moments = λ r l. moments r l .0;
       last-moments = λ r l. moments r l .1;
       others = λ r l m. absurd (omega arith);
     }
   where
-    moments : (r : ℕ) → r < 3
-        → (word table r 1 ≡ wordAt (finalLifetimes 3 3 uses lifetimes) (r * 2)) × (word table r 2 ≡ wordAt (finalLifetimes 3 3 uses lifetimes) (r * 2 + 1))
+    moments : (r : ℕ) → r < 2
+        → (word table r 1 ≡ wordAt (finalLifetimes 2 2 uses lifetimes) (r * 2)) × (word table r 2 ≡ wordAt (finalLifetimes 2 2 uses lifetimes) (r * 2 + 1))
     moments zero l = (refl, refl)
     moments (suc zero) l = (refl, refl)
-    moments (suc (suc zero)) l = (refl, refl)
-    moments (suc (suc (suc r))) l = absurd (omega arith)
+    moments (suc (suc r)) l = absurd (omega arith)
 
 -- The inspector accepts the plan, and arena and bytes are long enough.
-lent : Lent grid table 48 offsets script arena bytes
+lent : Lent grid table 32 offsets script arena bytes
 unfolding firstFrom firstIn holdsBelow greatest partner hasPartner pairBelow pairFirst pairSecond natural isMinusOne roundedUp liveTogether shareByte collides endOrZero need request good moved offGrid proposedNeed inspectOf
 lent =
     record {
       accepted = refl;
-      long-enough = leb-true 48 (length arena) refl;
+      long-enough = leb-true 32 (length arena) refl;
       whole = refl;
       few = leb-true (count script) greatestAccesses refl;
       room = leb-true (count script) (length bytes) refl;
@@ -109,17 +100,17 @@ good-before : (k : ℕ) → k < 2 → GoodAccess table script k
 good-before k l = access-says grid table script each few k (λ i m. passes i (omega arith)) (passes k l)
   where
     each : (r : ℕ) → r < rows table → GoodRow grid table r
-    each = passed-acceptable grid table 48 offsets (omega arith) (passed-says grid table 48 offsets (lent .accepted)) .table .each
+    each = passed-acceptable grid table 32 offsets (omega arith) (passed-says grid table 32 offsets (lent .accepted)) .table .each
 
     few : rows table ≤ greatestRows
     few = leb-true (rows table) greatestRows refl
 
 -- and the third reads the output.
-read-after : ReadsOutput 3 uses table script 2
+read-after : ReadsOutput 2 uses table script 2
 read-after =
     record {
-      tensor = 1;
-      output = record { which = 3; within = leb-true 4 7 refl; so = record { role = refl; tensor = refl } };
+      tensor = 0;
+      output = record { which = 1; within = leb-true 2 3 refl; so = record { role = refl; tensor = refl } };
       moment = refl;
       row = refl;
       index-from = leZ-yes tt;
@@ -127,20 +118,20 @@ read-after =
       reads = refl;
     }
 
-good-or-reads : GoodOrReads 3 uses table script
+good-or-reads : GoodOrReads 2 uses table script
 good-or-reads zero m = inl (good-before 0 (omega arith))
 good-or-reads (suc zero) m = inl (good-before 1 (omega arith))
 good-or-reads (suc (suc zero)) m = inr read-after
 good-or-reads (suc (suc (suc k))) m = absurd (omega arith)
 
 -- So the read gives 7, the byte that operator 0 wrote.
-pub output-read : getD (finalBytes grid table 48 offsets script arena bytes) 2 0 ≡ 7
+pub output-read : getD (finalBytes grid table 32 offsets script arena bytes) 2 0 ≡ 7
 unfolding natural
 output-read =
-    outputs-read-at-grid 3 3 uses lifetimes table 48 offsets script arena bytes from-lifetimes lent good-or-reads .last-written 0 2 7 (omega arith) (leb-true 3 3 refl) read-after refl
+    outputs-read-at-grid 2 2 uses lifetimes table 32 offsets script arena bytes from-lifetimes lent good-or-reads .last-written 0 2 7 (omega arith) (leb-true 3 3 refl) read-after refl
     record { row = refl; index = refl } between
   where
     between : (i w : ℕ) → 0 < i → i < 2 → Writes script i w → SameByte script i 2 → ⊥
     between zero w l m x same = omega arith
-    between (suc zero) w l m x same = let e : _≡_ {A = ℕ} 2 1 = ap natural (same .row) in omega arith
+    between (suc zero) w l m x same = let e : _≡_ {A = ℕ} 1 0 = ap natural (same .row) in omega arith
     between (suc (suc i)) w l m x same = omega arith

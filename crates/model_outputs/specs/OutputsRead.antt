@@ -59,23 +59,23 @@ pub record LastAlive (operators : ℕ) (t : List ℤ) (r : ℕ) : Type 0 where
 -- ---- the table
 
 module _ (operators tensors : ℕ) (u lifetimes t : List ℤ) (f : FromLifetimes operators tensors u lifetimes t) where
-  abbrev lives : Left operators tensors u lifetimes
-  lives = left operators tensors u lifetimes (f .done)
+  abbrev leaves : Left operators tensors u lifetimes
+  leaves = left operators tensors u lifetimes (f .done)
 
-  lifetime : (r : ℕ) → r < tensors → Lifetime operators u r (lives .first r) (lives .last r)
-  lifetime = lives .lifetime
+  lifetime : (r : ℕ) → r < tensors → Lifetime operators u r (leaves .first r) (leaves .last r)
+  lifetime = leaves .lifetime
 
-  first-is : (r : ℕ) → r < tensors → word t r 1 ≡ pos (lives .first r)
-  first-is r l = f .first-moments r l ∙ lives .first-entry r l
+  first-is : (r : ℕ) → r < tensors → word t r 1 ≡ pos (leaves .first r)
+  first-is r l = f .first-moments r l ∙ leaves .first-entry r l
 
-  last-is : (r : ℕ) → r < tensors → word t r 2 ≡ pos (lives .last r)
-  last-is r l = f .last-moments r l ∙ lives .last-entry r l
+  last-is : (r : ℕ) → r < tensors → word t r 2 ≡ pos (leaves .last r)
+  last-is r l = f .last-moments r l ∙ leaves .last-entry r l
 
   -- A model output is alive at moment T − 1,
   pub output-alive : (r : ℕ) → Output u r → LastAlive operators t r
   output-alive r x =
       let l = output-within operators tensors u lifetimes (f .done) r x in
-      let e : lives .last r ≡ operators - 1 = omega (arith, output-last operators tensors u lifetimes (f .done) r x) in
+      let e : leaves .last r ≡ operators - 1 = omega (arith, output-last operators tensors u lifetimes (f .done) r x) in
       record {
         is-row = omega (arith, l, f .row-each);
         begun = subst (λ (z : ℤ). z ≤ℤ pos (operators - 1)) (sym (first-is r l)) (le-of _ _ (omega (arith, e, lifetime r l .rising)));

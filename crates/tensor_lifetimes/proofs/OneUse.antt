@@ -74,18 +74,24 @@ unfolding lifetimeSoFar
 known-high operators u j t = (first-is (namedSoFar u j t) 0 operators zero-le .high, end-high (outputSoFar u j t) (namedSoFar u j t) operators, first-is (readableSoFar u j t) 0 operators zero-le .high)
 
 module _ (operators : ℕ) (u : List ℤ) (j t : ℕ) where
+  -- A use that names by no operator and lets none read moves the end alone.
+  end-alone : ((m : ℕ) → names (useAt u j) t m ≡ false) → ((m : ℕ) → lets (useAt u j) t m ≡ false)
+      → {end all : ℕ} → endBy (givesOut (useAt u j) t) (names (useAt u j) t) operators ≡ end → max (lifetimeSoFar operators u j t .end .0) end ≡ all
+      → record { first = lifetimeSoFar operators u j t .first; end = record { 0 = all }; readable = lifetimeSoFar operators u j t .readable } ≡ lifetimeSoFar operators u (j + 1) t
+  end-alone n l e q =
+      let h = known-high operators u j t in
+      let first : min (lifetimeSoFar operators u j t .first .0) operators ≡ lifetimeSoFar operators u j t .first .0 = omega (arith, h .0) in
+      let readable : min (lifetimeSoFar operators u j t .readable .0) operators ≡ lifetimeSoFar operators u j t .readable .0 = omega (arith, h .2) in
+      sym
+      (adds operators u j t (first-none _ operators (λ m z. n m)) e (first-none _ operators (λ m z. l m))
+      ∙ (λ i. record { first = record { 0 = first i }; end = record { 0 = q i }; readable = record { 0 = readable i } }))
+
   -- A use of another tensor adds nothing.
   pub other-tensor : (useAt u j .tensor .0 ≡ t → ⊥) → lifetimeSoFar operators u j t ≡ lifetimeSoFar operators u (j + 1) t
   unfolding names givesOut lets
   other-tensor d =
       let other = ne-eqb (useAt u j .tensor .0) t d in
-      let h = known-high operators u j t in
-      let first : min (lifetimeSoFar operators u j t .first .0) operators ≡ lifetimeSoFar operators u j t .first .0 = omega (arith, h .0) in
-      let end : max (lifetimeSoFar operators u j t .end .0) 0 ≡ lifetimeSoFar operators u j t .end .0 = omega arith in
-      let readable : min (lifetimeSoFar operators u j t .readable .0) operators ≡ lifetimeSoFar operators u j t .readable .0 = omega (arith, h .2) in
-      sym
-      (adds operators u j t (first-none _ operators (λ m l. rw other)) (end-nothing _ _ operators (rw other) (λ m. rw other)) (first-none _ operators (λ m l. rw other))
-      ∙ (λ i. record { first = record { 0 = first i }; end = record { 0 = end i }; readable = record { 0 = readable i } }))
+      end-alone (λ m. rw other) (λ m. rw other) (end-nothing _ _ operators (rw other) (λ m. rw other)) (omega arith)
 
 module _ (x : Use) where
   own : eqb (x .tensor .0) (x .tensor .0) ≡ true
@@ -166,14 +172,9 @@ module _ (operators tensors : ℕ) (u : List ℤ) (j : ℕ) (few : operators ≤
       let all : min (known .readable .0) 0 ≡ 0 = omega arith in
       by-operator g (λ y. omega (arith, q)) (λ m. input-names usage m q z) (first-all _ operators (λ m. input-lets usage m q)) (rw q all)
   by-role g (output q) =
-      let h = known-high operators u j (usage .tensor .0) in
-      let first : min (known .first .0) operators ≡ known .first .0 = omega (arith, h .0) in
-      let end : max (known .end .0) operators ≡ operators = omega (arith, h .1) in
-      let readable : min (known .readable .0) operators ≡ known .readable .0 = omega (arith, h .2) in
-      sym
-      (adds operators u j (usage .tensor .0) (first-none _ operators (λ m l. output-names usage m q)) (end-output _ _ operators (output-given usage q)) (first-none _ operators (λ m l. others-let usage m (inr q)))
-      ∙ (λ i. record { first = record { 0 = first i }; end = record { 0 = end i }; readable = record { 0 = readable i } })
-      ∙ lifetime-lasts known usage operators (heard g) q)
+      sym (lifetime-lasts known usage operators (heard g) q)
+      ∙ end-alone operators u j (usage .tensor .0) (λ m. output-names usage m q) (λ m. others-let usage m (inr q)) (end-output _ _ operators (output-given usage q))
+      (omega (arith, known-high operators u j (usage .tensor .0) .1))
 
   -- A good use of the tensor adds what the code makes of it.
   pub own-tensor : good operators tensors usage ≡ true → lifetimeWith known usage operators ≡ lifetimeSoFar operators u (j + 1) (usage .tensor .0)
