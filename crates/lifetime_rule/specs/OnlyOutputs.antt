@@ -21,12 +21,16 @@ abbrev pub OnlyOutput : List ℤ → ℕ → Type 0
 OnlyOutput u t = (k : ℕ) → k < count u → word u k 1 ≡ pos t → word u k 2 ≡ pos modelOutput
 
 module _ (operators tensors : ℕ) (u : List ℤ) (room t : ℕ) (only : OnlyOutput u t) where
-  -- A use that names the tensor would have another role.
-  no-name : (m k : ℕ) → k < count u → Names u t m k → ⊥
+  -- No use of the tensor has a lower role,
+  no-other : {r k : ℕ} → k < count u → word u k 2 ≡ pos r → word u k 1 ≡ pos t → r < modelOutput → ⊥
   unfolding natural
-  no-name m k l (by-reading r w o) = let e : _≡_ {A = ℕ} 0 3 = ap natural (sym r ∙ only k l w) in omega arith
-  no-name m k l (by-writing r w o) = let e : _≡_ {A = ℕ} 1 3 = ap natural (sym r ∙ only k l w) in omega arith
-  no-name m k l (as-input r w z) = let e : _≡_ {A = ℕ} 2 3 = ap natural (sym r ∙ only k l w) in omega arith
+  no-other {r} {k} l e w h = let same : r ≡ modelOutput = ap natural (sym e ∙ only k l w) in omega arith
+
+  -- and each that names it would.
+  no-name : (m k : ℕ) → k < count u → Names u t m k → ⊥
+  no-name m k l (by-reading r w o) = no-other l r w (omega arith)
+  no-name m k l (by-writing r w o) = no-other l r w (omega arith)
+  no-name m k l (as-input r w z) = no-other l r w (omega arith)
 
   -- So no operator names the tensor.
   pub only-output-unnamed : NeverNamed operators tensors u room t
