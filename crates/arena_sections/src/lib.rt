@@ -123,8 +123,7 @@ impl Sections {
         if self.tail < size {
             return Outcome::refused(Answer::NO_ROOM, self);
         }
-        let gap = (self.tail - size) % alignment;
-        let start = self.tail - size - gap;
+        let start = alignment::round_down(alignment, self.tail - size);
         let mut next = self;
         next.tail = start;
         if self.temp <= start {

@@ -1,10 +1,9 @@
 -- `arena_sections::Sections::allocate_persistent` meets its contract.
 use Prim.Native.Nat.{ℕ}
 use mathlib.Core.Path.{_≡_, sym, _∙_, ap}
-use native.Mathlib.Nat.{mod-le}
 use native.Mathlib.Omega.{arith}
 use borrow.Author.Needs.{needs}
-use Rattle.arena_sections.specs.Cases.{allocationNumber, alignment-some, start-by-gap, persistent-checked, persistent-too-large, persistent-no-room, persistent-room}
+use Rattle.arena_sections.specs.Cases.{allocationNumber, persistent-checked, persistent-too-large, persistent-no-room, persistent-room}
 use Rattle.arena_sections.specs.Sections.{baseAlignment, withTail, doneOutcome}
 use Rattle.arena_sections.proofs.Sections.allocate_persistent.Statement.{statement}
 use Rattle.arena_sections.proofs.Sections.allocate_persistent.Tie as tie
@@ -28,32 +27,28 @@ refused-requires-2 c κs = search needs
 returns-2 : tie.Need-returns-2
 returns-2 c = c .refused2 .ensures ∙ persistent-too-large _ _ _ _ (checked (c .before .before .before)) (omega arith)
 
-rem-gap : tie.Need-rem-gap
-rem-gap c = alignment-some _ _ _ (checked (c .before .before .before))
-
-sub-start : tie.Need-sub-start
-sub-start c = mod-le _ _
+round-down-requires : tie.Need-round-down-requires
+round-down-requires c κs = search needs
 
 done-requires : tie.Need-done-requires
 done-requires c κs = search needs
 
 returns-3 : tie.Need-returns-3
 returns-3 c =
-    let u = c .before .before .before .before .before .before .before in
+    let r = c .before .before .before in
+    let u = r .before .before .before .before in
     let a = u .before .before .args in
-    let e = start-by-gap (a .self) (a .size) (a .alignment) in
     c .done .ensures
-    ∙ ap (λ (start : ℕ). doneOutcome start (withTail (a .self) start)) e
-    ∙ persistent-room _ _ _ _ (checked u) (omega arith) (omega (arith, e))
+    ∙ ap (λ (start : ℕ). doneOutcome start (withTail (a .self) start)) (r .round-down .ensures)
+    ∙ persistent-room _ _ _ _ (checked u) (omega arith) (omega (arith, r .round-down .ensures))
 
 refused-requires-3 : tie.Need-refused-requires-3
 refused-requires-3 c κs = search needs
 
 returns-4 : tie.Need-returns-4
 returns-4 c =
-    let u = c .before .before .before .before .before .before .before in
-    let a = u .before .before .args in
-    c .refused3 .ensures ∙ persistent-no-room _ _ _ _ (checked u) (omega (arith, start-by-gap (a .self) (a .size) (a .alignment)))
+    let r = c .before .before .before in
+    c .refused3 .ensures ∙ persistent-no-room _ _ _ _ (checked (r .before .before .before .before)) (omega (arith, r .round-down .ensures))
 
 pub allocate-persistent-spec : {M : Type 1} → statement M
 allocate-persistent-spec =
@@ -64,8 +59,7 @@ allocate-persistent-spec =
     returns
     refused-requires-2
     returns-2
-    rem-gap
-    sub-start
+    round-down-requires
     done-requires
     returns-3
     refused-requires-3
