@@ -2,10 +2,10 @@
 use Prim.Native.Nat.{ℕ, _+_, _-_, _*_, _/_, _%_, _^_, _<_, _≤_}
 use mathlib.Core.Logic.{⊎-elim}
 use mathlib.Core.Path.{_≡_, sym, _∙_, ap}
-use native.Mathlib.Nat.{div-add-mod', mod-lt, one-le-pow, add-mul-mod-self-right, le-antisymm}
+use native.Mathlib.Nat.{div-add-mod', mod-lt, add-mul-mod-self-right, le-antisymm}
 use native.Mathlib.Omega.{arith}
 use lib.Bits.{bitAnd, and-high, and-mask}
-use lib.Pow.{recompose, mod-pow-add}
+use lib.Pow.{pow-pos, recompose, mod-pow-add}
 use Rattle.alignment.specs.Alignments.{loss, loss-reaches, loss-least}
 use Rattle.alignment.specs.Rounding.{roundedUp, roundedDown, multiples-apart}
 use Rattle.bounded.specs.Boolean.{lt-or-le}
@@ -22,11 +22,8 @@ up-by-bits j k n l = down-by-bits j k (n + (2 ^ k - 1)) l
 
 -- What is lost before a start is rounded up: the lowest k bits of the start taken from 0, which wraps.
 pub loss-by-bits : (j k n start : ℕ) → (n + start) % 2 ^ (j + k) ≡ 0 → bitAnd n (2 ^ k - 1) ≡ loss (2 ^ k) start
-loss-by-bits j k n start e = and-mask n k ∙ le-antisymm most (loss-least (2 ^ k) start some (n % 2 ^ k) reaches)
+loss-by-bits j k n start e = and-mask n k ∙ le-antisymm most (loss-least (2 ^ k) start (pow-pos k) (n % 2 ^ k) reaches)
   where
-    some : 0 < 2 ^ k
-    some = omega (arith, one-le-pow k 2 (omega arith))
-
     reaches : (start + n % 2 ^ k) % 2 ^ k ≡ 0
     reaches =
         let x : start + n % 2 ^ k + n / 2 ^ k * 2 ^ k ≡ n + start = omega (arith, div-add-mod' n (2 ^ k)) in
@@ -35,6 +32,6 @@ loss-by-bits j k n start e = and-mask n k ∙ le-antisymm most (loss-least (2 ^ 
     most : n % 2 ^ k ≤ loss (2 ^ k) start
     most =
         ⊎-elim
-        (λ l. omega (arith, mod-lt n some, multiples-apart (2 ^ k) _ _ (loss-reaches (2 ^ k) start some) reaches (omega arith)))
+        (λ l. omega (arith, mod-lt n (pow-pos k), multiples-apart (2 ^ k) _ _ (loss-reaches (2 ^ k) start (pow-pos k)) reaches (omega arith)))
         (λ l. l)
         (lt-or-le (loss (2 ^ k) start) (n % 2 ^ k))

@@ -1,13 +1,13 @@
 -- `alignment::bytes_lost` meets its contract.
-use Prim.Native.Nat.{_-_, _%_}
-use mathlib.Core.Path.{refl, sym, _∙_}
-use native.Mathlib.Nat.{le-of-lt, mod-lt, mod-zero, zero-sub}
+use mathlib.Core.Path.{refl}
+use native.Mathlib.Nat.{le-of-lt, mod-lt}
 use native.Mathlib.Omega.{arith}
 use borrow.Author.Needs.{needs}
 use lib.Bits.{and-le-r}
 use mir.Facts.{fits-le, fits-lt, fits-lit}
 use Rattle.alignment.specs.Alignments.{loss}
 use Rattle.alignment.proofs.Masks.{loss-by-bits}
+use Rattle.alignment.proofs.NoGrid.{none-lost}
 use Rattle.alignment.proofs.bytes_lost.Statement.{statement}
 use Rattle.alignment.proofs.bytes_lost.Tie as tie
 
@@ -33,8 +33,7 @@ returns : tie.Need-returns
 returns c = rw (c .before .match .keys1) (loss-by-bits 60 4 _ (c .before .before .args .start) (c .wrapping-sub-u64 .ensures))
 
 returns-2 : tie.Need-returns-2
-unfolding loss
-returns-2 c = let over = c .before .args .start % 0 in rw (c .match .keys2) (sym (mod-zero (0 - over) ∙ zero-sub over))
+returns-2 c = let a = c .before .args in none-lost (a .grid) (a .start) (c .match .keys2)
 
 returns-3 : tie.Need-returns-3
 unfolding loss

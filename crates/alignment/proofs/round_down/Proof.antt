@@ -1,11 +1,12 @@
 -- `alignment::round_down` meets its contract.
 use mathlib.Core.Path.{refl}
-use native.Mathlib.Nat.{div-mul-le-self, mul-zero}
+use native.Mathlib.Nat.{div-mul-le-self}
 use native.Mathlib.Omega.{arith}
 use borrow.Author.Needs.{needs}
 use mir.Facts.{fits-le}
 use Rattle.alignment.specs.Rounding.{roundedDown}
 use Rattle.alignment.proofs.Masks.{down-by-bits}
+use Rattle.alignment.proofs.NoGrid.{down-to-none}
 use Rattle.alignment.proofs.round_down.Statement.{statement}
 use Rattle.alignment.proofs.round_down.Tie as tie
 
@@ -19,8 +20,7 @@ returns : tie.Need-returns
 returns c = rw (c .match .keys1) (down-by-bits 28 4 (c .before .args .number) (omega arith))
 
 returns-2 : tie.Need-returns-2
-unfolding roundedDown
-returns-2 c = rw (c .match .keys2, mul-zero)
+returns-2 c = let a = c .before .args in down-to-none (a .grid) (a .number) (c .match .keys2)
 
 returns-3 : tie.Need-returns-3
 unfolding roundedDown
