@@ -97,6 +97,10 @@ readBeforeWritten = 21
 abbrev pub badTypeCode : ℕ
 badTypeCode = 24
 
+-- 25: allocation kind refused (document 02, order 4).
+abbrev pub badAllocationKind : ℕ
+badAllocationKind = 25
+
 -- ---- the answers
 
 -- Done, with the need of the plan.

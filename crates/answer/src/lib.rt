@@ -56,6 +56,8 @@ impl Answer {
 
     pub const BAD_TYPE_CODE: u32 = 24;
 
+    pub const BAD_ALLOCATION_KIND: u32 = 25;
+
     // Done, with the need of the plan.
     pub fn done(need: u64) -> Answer
         ensures { λ r. ⌜ r ≡ doneWith need ⌝ }

@@ -1,13 +1,13 @@
 -- Histories of the sections: an accepted opening, then any operations with any arguments, refused ones among them, each on the state that the one
 -- before handed back. What a history holds, the kept spans with their gaps, the borrowed spans not yet reset and the head, is worked out here from the
 -- operations and their answers, and from no state. Document 01 calls a persistent allocation a keep and a temporary one a borrow.
-use Prim.Native.Nat.{ℕ, _+_, _-_, _%_, _<_, _≤_, max}
+use Prim.Native.Nat.{ℕ, _+_, _<_, _≤_, max}
 use mathlib.Core.Bool.{true, false}
 use mathlib.Core.List.{List, [], _∷_}
 use lib.Dec.{eqb}
 use Rattle.answer.specs.Answer.{done}
 use Rattle.answer.specs.declared.Answer.{Answer}
-use Rattle.arena_sections.specs.Sections.{openOf, persistentOf, tempOf, resetOf, headOf}
+use Rattle.arena_sections.specs.Sections.{gapBelow, openOf, persistentOf, tempOf, resetOf, headOf}
 use Rattle.arena_sections.specs.declared.Outcome.{Outcome}
 use Rattle.arena_sections.specs.declared.Sections.{Sections}
 
@@ -121,7 +121,7 @@ pub data Effect : Type 0 where
 -- The effect of an accepted operation, by the tail before it and the start that it answered: "the gap being (tail before − size) mod alignment".
 abbrev pub effectBy : ℕ → Operation → ℕ → Effect
 effectBy tail (allocatePersistent size alignment) start =
-    keeps (record { span = record { start = start; size = size }; gap = (tail - size) % alignment })
+    keeps (record { span = record { start = start; size = size }; gap = gapBelow tail size alignment })
 effectBy tail (allocateTemp size alignment) start = borrows (record { start = start; size = size })
 effectBy tail resetTemp start = resets
 effectBy tail (setHead length) start = setsHead length

@@ -4,7 +4,7 @@
 --     head .. temp     temporaries
 --     tail .. usable   persistent memory
 -- Any state may be handed in, one that is not valid too. Every refusal hands the same state back.
-use Prim.Native.Nat.{ℕ, _+_, _-_}
+use Prim.Native.Nat.{ℕ, _+_, _-_, _%_}
 use mathlib.Core.Bool.{Bool, not, _&&_, _||_}
 use mathlib.Core.List.{List, [], _∷_, _++_}
 use lib.Dec.{ltb, leb, eqb}
@@ -96,6 +96,10 @@ allocationOf g s alignment = firstCause (allocationCauses g s alignment) (doneOu
 -- "Keep (persistent): start is tail − size rounded down to the alignment".
 abbrev pub persistentStart : Sections → ℕ → ℕ → ℕ
 persistentStart s size alignment = roundedDown alignment (s .tail - size)
+
+-- "the gap being (tail before − size) mod alignment".
+abbrev pub gapBelow : ℕ → ℕ → ℕ → ℕ
+gapBelow tail size alignment = (tail - size) % alignment
 
 -- "15 exactly if size > tail or start < temp."
 unfoldable pub persistentFull : Sections → ℕ → ℕ → Bool

@@ -9,8 +9,8 @@ use lib.ListN.{take}
 use Rattle.answer.specs.Answer.{done}
 use Rattle.bounded.specs.Causes.{by-causes}
 use Rattle.bounded.specs.Entries.{Each, EachTwo}
-use Rattle.arena_sections.specs.Effects.{Keeping, Borrowing, Books, goes-on, begins}
-use Rattle.arena_sections.specs.History.{Operation, Span, Kept, Held, Apart, Inside, KeptApart, KeptInside, noSpan, noKept, tempBy, outcomeOf, after, events, used, tailBy, effectOf, heldAfter, nothingHeld, opened, stateAfter, held}
+use Rattle.arena_sections.specs.Effects.{Keeping, Borrowing, Books, Does, goes-on, begins}
+use Rattle.arena_sections.specs.History.{Operation, Event, Span, Kept, Held, Apart, Inside, KeptApart, KeptInside, noSpan, noKept, tempBy, outcomeOf, after, events, used, tailBy, effectOf, applied, heldAfter, nothingHeld, opened, stateAfter, held}
 use Rattle.arena_sections.specs.OperationEffects.{has-effect}
 use Rattle.arena_sections.specs.Ordered.{Ordered}
 use Rattle.arena_sections.specs.Room.{usable-says}
@@ -51,7 +51,7 @@ pub record SoundHistory (g start len : ℕ) (ops : List Operation) : Type 0 wher
   pub each-usable : (k : ℕ) → stateAfter g start len (take k ops) .usable ≡ opened g start len .usable
 
 -- What agreeing books say.
-books-sound : {usable : ℕ} {s : Sections} {h : Held} → Books usable s h → Sound usable s h
+pub books-sound : {usable : ℕ} {s : Sections} {h : Held} → Books usable s h → Sound usable s h
 books-sound {usable} {s} {h} b =
     record {
       sum = kept .sum;
@@ -73,15 +73,21 @@ books-sound {usable} {s} {h} b =
     out : Borrowing (s .head) (s .temp) (h .borrowed)
     out = b .borrowing
 
+-- The books go on agreeing where an event has its effect, by the tail of the state or by that of what is held.
+pub books-step : {usable : ℕ} {s t : Sections} {h : Held} (e : Event) → Books usable s h → Does (effectOf (s .tail) e) s t
+    → Books usable t (applied (effectOf (tailBy usable (h .kept)) e) h)
+books-step {usable} {s} {t} {h} e b d = goes-on (effectOf (tailBy usable (h .kept)) e) b (rw (← b .keeping .tail-is) d)
+
 module _ (g usable : ℕ) where
   -- The books agree after every operation.
   runs : (ops : List Operation) (s : Sections) (h : Held) → Books usable s h → Books usable (after g s ops) (heldAfter usable h (events g s ops))
   unfolding after events heldAfter
   runs [] s h b = b
-  runs (op ∷ ops) s h b = runs ops (outcomeOf g s op .sections) _ (goes-on (effectOf (tailBy usable (h .kept)) (record { operation = op; answer = outcomeOf g s op .answer })) b (rw (← b .keeping .tail-is) (has-effect g s op)))
+  runs (op ∷ ops) s h b =
+      runs ops (outcomeOf g s op .sections) _ (books-step (record { operation = op; answer = outcomeOf g s op .answer }) b (has-effect g s op))
 
 -- An accepted opening begins books that agree.
-opening-begins : (g start len : ℕ) → openOf g start len .answer .number ≡ done → Books (opened g start len .usable) (opened g start len) nothingHeld
+pub opening-begins : (g start len : ℕ) → openOf g start len .answer .number ≡ done → Books (opened g start len .usable) (opened g start len) nothingHeld
 unfolding openOf
 opening-begins g start len =
     by-causes (λ (o : Outcome). o .answer .number ≡ done → Books (o .sections .usable) (o .sections) nothingHeld)

@@ -31,8 +31,8 @@ pub struct Outcome {
 }
 
 impl Outcome {
-    // Refused by a number; this state is handed back.
-    fn refused(number: u32, sections: Sections) -> Outcome
+    // Refused by a number; this state is handed back. Whoever refuses before the sections do makes its outcome by this too.
+    pub fn refused(number: u32, sections: Sections) -> Outcome
         ensures { λ r. ⌜ r ≡ refusedOutcome number sections ⌝ }
     {
         Outcome {

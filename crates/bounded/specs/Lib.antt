@@ -9,6 +9,7 @@ pub mod TwoEach
 pub mod Causes
 pub mod Listed
 pub mod Count
+pub mod Sums
 pub mod InOrder
 pub mod Entries
 pub mod Front

@@ -1,0 +1,2 @@
+pub mod SixKinds
+pub mod Entries
