@@ -9,7 +9,7 @@ use lib.Dec.{leb}
 use lib.ListN.{length}
 use Rattle.bounded.specs.Boolean.{both}
 use Rattle.request_table.specs.Limits.{greatestRows}
-use Rattle.plan_text.specs.Put.{Put, Room, put-at-start}
+use Rattle.text_pieces.specs.Put.{Put, Room, put-at-start}
 use Rattle.text_rule.specs.Text.{greatestText}
 use Rattle.plan_text.specs.Written.{hasRoom, writtenLength, writtenInto}
 

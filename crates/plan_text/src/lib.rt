@@ -1,61 +1,29 @@
-// The text of an answer (document 01, "The request sheet"), written into lent bytes. Each function that puts a piece asks for its room and answers where
-// the next piece starts; the two public ones look for the room of any text first, so that no text is ever cut.
+// The text of an answer (document 01, "The request sheet"), written into lent bytes. Each function that puts a line asks for its room and answers where
+// the next line starts; the two public ones look for the room of any text first, so that no text is ever cut.
 ghost use Prim.Native.Nat.{_+_, _*_, _≤_};
 ghost use mathlib.Core.Bool.{true};
 ghost use mathlib.Core.Path.{_≡_};
 ghost use lib.ListN.{length};
 ghost use Rattle.request_table.specs.Limits.{greatestRows};
-ghost use Rattle.decimal_text.specs.Decimal.{decimal};
-ghost use Rattle.plan_text.specs.Put.{Put, Room};
-ghost use Rattle.text_rule.specs.Text.{spaced, headLine, rowLine, rowLines, planText, refusedText, answerText, badSheetText, offsetIn};
+ghost use Rattle.text_pieces.specs.Put.{Put, Room};
+ghost use Rattle.text_rule.specs.Text.{headLine, rowLine, rowLines, planText, refusedText, answerText, badSheetText, offsetIn};
 ghost use Rattle.plan_text.specs.Written.{hasRoom, writtenLength, writtenInto};
 use answer::Answer;
 use request_table::GREATEST_ROWS;
+use text_pieces::put_number;
+use text_pieces::put_text;
 use units::Row;
 
 // Bytes enough for any text.
 pub const GREATEST_TEXT: usize = 62 + 22 * GREATEST_ROWS;
-
-// Puts the bytes of a piece at a place.
-fn put_text(text: &mut [u8], at: usize, piece: &[u8]) -> usize
-    requires { ⌜ Room (now text) at (now piece) ⌝ }
-    ensures { λ r. ⌜ Put (now (text .entry)) (now (text .exit)) at r (now (piece .entry)) ⌝ }
-{
-    let mut count = 0;
-    while count < piece.len() {
-        let place = at + count;
-        text[place] = piece[count];
-        count += 1;
-    }
-    at + count
-}
-
-// Puts a number in decimal.
-fn put_number(text: &mut [u8], at: usize, number: u64) -> usize
-    requires { ⌜ Room (now text) at (decimal number) ⌝ }
-    ensures { λ r. ⌜ Put (now (text .entry)) (now (text .exit)) at r (decimal number) ⌝ }
-{
-    let mut digits = [0u8; 20];
-    let count = io::decimal(number, &mut digits);
-    put_text(text, at, &digits[..count])
-}
-
-// Puts a number with a blank before it.
-fn put_spaced(text: &mut [u8], at: usize, number: u64) -> usize
-    requires { ⌜ Room (now text) at (spaced number) ⌝ }
-    ensures { λ r. ⌜ Put (now (text .entry)) (now (text .exit)) at r (spaced number) ⌝ }
-{
-    let after_blank = put_text(text, at, b" ");
-    put_number(text, after_blank, number)
-}
 
 // Puts the line `ROW OFFSET`.
 fn put_row(text: &mut [u8], at: usize, row: Row, offset: u32) -> usize
     requires { ⌜ Room (now text) at (rowLine (row .0) offset) ⌝ }
     ensures { λ r. ⌜ Put (now (text .entry)) (now (text .exit)) at r (rowLine (row .0) offset) ⌝ }
 {
-    let after_row = put_number(text, at, row.0 as u64);
-    let after_offset = put_spaced(text, after_row, offset as u64);
+    let after_row = put_number(text, at, b"", row.0 as u64);
+    let after_offset = put_number(text, after_row, b" ", offset as u64);
     put_text(text, after_offset, b"\n")
 }
 
@@ -79,8 +47,7 @@ fn put_head(text: &mut [u8], need: u64) -> usize
     requires { ⌜ Room (now text) 0 (headLine need) ⌝ }
     ensures { λ r. ⌜ Put (now (text .entry)) (now (text .exit)) 0 r (headLine need) ⌝ }
 {
-    let after_word = put_text(text, 0, b"head");
-    let after_need = put_spaced(text, after_word, need);
+    let after_need = put_number(text, 0, b"head ", need);
     put_text(text, after_need, b"\n")
 }
 
@@ -98,11 +65,10 @@ fn put_refusal(text: &mut [u8], answer: Answer) -> usize
     requires { ⌜ Room (now text) 0 (refusedText answer) ⌝ }
     ensures { λ r. ⌜ Put (now (text .entry)) (now (text .exit)) 0 r (refusedText answer) ⌝ }
 {
-    let after_word = put_text(text, 0, b"refused");
-    let after_number = put_spaced(text, after_word, answer.number as u64);
-    let after_a = put_spaced(text, after_number, answer.a as u64);
-    let after_b = put_spaced(text, after_a, answer.b as u64);
-    let after_need = put_spaced(text, after_b, answer.need);
+    let after_number = put_number(text, 0, b"refused ", answer.number as u64);
+    let after_a = put_number(text, after_number, b" ", answer.a as u64);
+    let after_b = put_number(text, after_a, b" ", answer.b as u64);
+    let after_need = put_number(text, after_b, b" ", answer.need);
     put_text(text, after_need, b"\n")
 }
 

@@ -27,14 +27,10 @@ use Rattle.shape_rule.specs.SizedRows.{sized-rows}
 use Rattle.sheet_rule.specs.GoodSheets.{Form, requests, shapes, Good, GoodSheet, well-says, well-of}
 use Rattle.sheet_rule.specs.ReadSheets.{rows-are, shapes-are}
 use Rattle.sheet_rule.specs.Sheet.{wellFormed, rowCount, sheetWords, sheetSpace}
-use Rattle.reply_rule.specs.Replies.{no-room, shapes-refused, shapes-sized, reply-stands, table-reply, shapes-reply, bad-reply}
-use Rattle.reply_rule.specs.Reply.{tableText, replyText, replyOf, textAfter, numberOf}
-use Rattle.reply_rule.specs.declared.Reply.the-variants.{Text, NoRoom}
-
--- No room is number 3, and a text is done.
-pub numbers : (n : ℕ) → (numberOf NoRoom ≡ 3) × (numberOf (Text n) ≡ 0)
-unfolding numberOf
-numbers n = (refl, refl)
+use Rattle.reply_rule.specs.Replies.{shapes-refused, shapes-sized, table-reply, shapes-reply, bad-reply}
+use Rattle.reply_rule.specs.Reply.{tableText, replyText, replyOf, textAfter}
+use Rattle.text_pieces.specs.Replied.{no-room, reply-stands}
+use Rattle.text_pieces.specs.declared.Reply.the-variants.{Text, NoRoom}
 
 module _ (sheet text : List ℕ) where
   -- The reply is this text, in front of the lent bytes.
@@ -60,7 +56,7 @@ module _ (sheet text : List ℕ) where
 
   told : {words : List ℕ} → greatestText ≤ length text → words ≡ replyText sheet → Told words
   told l e =
-      let s = reply-stands sheet text l record { count-is = refl; bytes-are = refl } in
+      let s = reply-stands greatestText (replyText sheet) text l record { count-is = refl; bytes-are = refl } in
       record { reply-is = sym (s .0) ∙ ap (λ (xs : List ℕ). Text (length xs)) (sym e); bytes-are = sym (s .1) ∙ ap (λ (xs : List ℕ). xs ++ drop (length xs) text) (sym e) }
 
   module _ (l : greatestText ≤ length text) (t : List ℤ) (rows-t : rows t ≡ rowCount sheet) (of : TableOf t) (e : tableText t (sheetSpace sheet) ≡ replyText sheet) where
@@ -105,6 +101,6 @@ module _ (sheet text : List ℕ) where
   outcome = go (lt-or-le (length text) greatestText) (wellFormed sheet) refl
     where
       go : (length text < greatestText) ⊎ (greatestText ≤ length text) → (b : Bool) → wellFormed sheet ≡ b → Outcome
-      go (inl l) b w = let n = no-room sheet text l in too-few-bytes l (sym (n .0)) (sym (n .1))
+      go (inl l) b w = let n = no-room greatestText (replyText sheet) text l in too-few-bytes l (sym (n .0)) (sym (n .1))
       go (inr l) false w = bad-sheet l (λ g. contrary (well-of sheet (g .form) (g .good)) w) (told l (bad-reply sheet w))
       go (inr l) true w = let g = well-says sheet w in of-good l w (g .form) (g .good)

@@ -3,11 +3,10 @@
 -- (`sheet_rule`) and the text of an answer (`text_rule`) meet here alone.
 use Prim.Native.Nat.{ℕ}
 use mathlib.Core.Bool.{true, false, not}
-use mathlib.Core.List.{List, [], _∷_, _++_}
-use lib.Dec.{eqb, ltb}
+use mathlib.Core.List.{List, [], _∷_}
+use lib.Dec.{eqb}
 use lib.IntN.{ℤ}
-use lib.ListN.{length, drop}
-use Rattle.answer.specs.Answer.{done, tableTooShort}
+use Rattle.answer.specs.Answer.{done}
 use Rattle.bounded.specs.Causes.{_⇒_, firstCause}
 use Rattle.greedy_rule.specs.Greedy.{greedyPlan}
 use Rattle.greedy_rule.specs.Plan.{planOf}
@@ -16,8 +15,8 @@ use Rattle.request_table.specs.Limits.{grid}
 use Rattle.request_table.specs.Table.{rows}
 use Rattle.shape_rule.specs.Sized.{sizedTable, shapesOf}
 use Rattle.sheet_rule.specs.Sheet.{wellFormed, version, sheetWords, sheetSpace}
-use Rattle.reply_rule.specs.declared.Reply.{Reply}
-use Rattle.reply_rule.specs.declared.Reply.the-variants.{Text, NoRoom}
+use Rattle.text_pieces.specs.Replied.{replyWith, leftWith}
+use Rattle.text_pieces.specs.declared.Reply.{Reply}
 
 -- What is told of a table in a space: the planner's answer with room for every row, and where it is done each row's offset.
 unfoldable pub tableText : List ℤ → ℕ → List ℕ
@@ -37,14 +36,9 @@ replyText sheet =
     (shapesText (sheetWords sheet) (sheetSpace sheet))
 
 -- The answer: no room where the lent bytes are fewer than the longest text has, tested first; else how many bytes the text has.
-unfoldable pub replyOf : List ℕ → ℕ → Reply
-replyOf sheet room = elim (ltb room greatestText) [ true ↦ NoRoom | false ↦ Text (length (replyText sheet)) ]
+abbrev pub replyOf : List ℕ → ℕ → Reply
+replyOf sheet room = replyWith greatestText (replyText sheet) room
 
 -- The lent bytes in the end: the text in front and the rest as it was; where there is no room, all stays.
-unfoldable pub textAfter : List ℕ → List ℕ → List ℕ
-textAfter sheet text = elim (ltb (length text) greatestText) [ true ↦ text | false ↦ replyText sheet ++ drop (length (replyText sheet)) text ]
-
--- "Where an answer is an enum, a definition gives this paper's number": no room is number 3, a text is done.
-unfoldable pub numberOf : Reply → ℕ
-numberOf (Text n) = done
-numberOf NoRoom = tableTooShort
+abbrev pub textAfter : List ℕ → List ℕ → List ℕ
+textAfter sheet text = leftWith greatestText (replyText sheet) text

@@ -14,7 +14,8 @@ use Rattle.greedy_rule.specs.Greedy.{largerFirst, fixedRows, greedyOrder, greed
 use Rattle.greedy_rule.specs.Plan.{fixedCollide, greedyNeed, planOf}
 use Rattle.placement.specs.Placing.{put, free, top, lowest, offsetFor, placing, place}
 use Rattle.decimal_text.specs.Decimal.{places, decimal}
-use Rattle.text_rule.specs.Text.{badSheetText, spaced, headLine, rowLine, rowLines, planText, refusedText, answerText}
+use Rattle.text_pieces.specs.Pieces.{spaced}
+use Rattle.text_rule.specs.Text.{badSheetText, headLine, rowLine, rowLines, planText, refusedText, answerText}
 use Rattle.request_table.specs.Buffers.{liveTogether, shareByte, collides, endOrZero, need}
 use Rattle.request_table.specs.Table.{request, good}
 use Rattle.shape_rule.specs.ShapeTable.{tensorSize, badShape}

@@ -7,7 +7,7 @@ use borrow.Author.Tests.{le-leb}
 use lib.Dec.{leb}
 use Rattle.bounded.specs.Boolean.{both-hold}
 use Rattle.plan_text.specs.Written.{hasRoom, writtenLength, writtenInto}
-use Rattle.reply_rule.specs.Replies.{Stands}
+use Rattle.text_pieces.specs.Replied.{Stands}
 use Rattle.request_table.specs.Limits.{greatestRows}
 use Rattle.text_rule.specs.Text.{greatestText}
 

@@ -1,7 +1,7 @@
 // The reply to a request sheet (document 01, "The request sheet"; document 02, order 1, for version 2): the sheet is read, its shapes sized where it has
 // them, its table planned and the answer told as text. Reading a sheet and writing a text are crates that do not know each other.
 pub use plan_text::GREATEST_TEXT;
-pub use reply_rule::Reply;
+pub use text_pieces::Reply;
 pub use sheet_bytes::GREATEST_SHEET;
 ghost use Prim.Native.Nat.{_*_, _%_, _≤_};
 ghost use mathlib.Core.Path.{_≡_};
@@ -10,7 +10,7 @@ ghost use Rattle.text_rule.specs.Text.{greatestText};
 ghost use Rattle.request_table.specs.Limits.{greatestRows};
 ghost use Rattle.request_table.specs.Table.{rows};
 ghost use Rattle.shape_rule.specs.ShapeTable.{shapeCount};
-ghost use Rattle.reply_rule.specs.Replies.{Stands};
+ghost use Rattle.text_pieces.specs.Replied.{Stands};
 ghost use Rattle.reply_rule.specs.Reply.{tableText, shapesText, replyOf, textAfter};
 use answer::Answer;
 use request_table::GREATEST_ROWS;

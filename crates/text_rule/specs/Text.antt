@@ -10,14 +10,7 @@ use Rattle.answer.specs.Answer.{done}
 use Rattle.request_table.specs.Limits.{greatestRows}
 use Rattle.words.specs.Words.{wordAt, natural}
 use Rattle.decimal_text.specs.Decimal.{decimal}
-
--- The line feed that ends a line.
-abbrev pub lineFeed : List ℕ
-lineFeed = 10 ∷ []
-
--- A number with a blank before it.
-unfoldable pub spaced : ℕ → List ℕ
-spaced n = 32 ∷ decimal n
+use Rattle.text_pieces.specs.Pieces.{lineFeed, spaced}
 
 -- `head`
 abbrev pub headWord : List ℕ

@@ -6,7 +6,8 @@ use Rattle.answer.specs.Answer.{doneWith, refusedNeed, needExceedsSpace}
 use Rattle.bounded.specs.First.{firstIn, firstFrom}
 use Rattle.words.specs.Words.{natural}
 use Rattle.decimal_text.specs.Decimal.{decimal, places}
-use Rattle.text_rule.specs.Text.{spaced, headLine, rowLine, offsetIn, rowLines, planText, refusedText, answerText}
+use Rattle.text_pieces.specs.Pieces.{spaced}
+use Rattle.text_rule.specs.Text.{headLine, rowLine, offsetIn, rowLines, planText, refusedText, answerText}
 
 -- "With the three rows of Sheet A below and space 1,024 the output is exactly": `head 176`, `0 0`, `1 112`, `2 0`.
 pub sheet-a-done : answerText (doneWith 176) (offsetIn (pos 0 ∷ pos 112 ∷ pos 0 ∷ [])) 3

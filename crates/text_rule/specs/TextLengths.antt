@@ -11,9 +11,8 @@ use Rattle.answer.specs.declared.Answer.{Answer}
 use Rattle.answer.specs.Answer.{done}
 use Rattle.request_table.specs.Limits.{greatestRows}
 use Rattle.words.specs.Words.{wordAt, natural}
-use Rattle.decimal_text.specs.Decimal.{decimal}
-use Rattle.decimal_text.specs.Decimals.{places-at-most, places-bounded, decimal-long}
-use Rattle.text_rule.specs.Text.{spaced, headLine, rowLine, offsetIn, rowLines, planText, refusedText, answerText, badSheetText, greatestText}
+use Rattle.text_pieces.specs.Pieces.{spaced, decimal-short, spaced-short, spaced-bounded}
+use Rattle.text_rule.specs.Text.{headLine, rowLine, offsetIn, rowLines, planText, refusedText, answerText, badSheetText, greatestText}
 
 -- The numbers of an answer are as wide as the code holds them: three of 32 bits, the need of 64.
 pub record Held (x : Answer) : Type 0 where
@@ -21,24 +20,6 @@ pub record Held (x : Answer) : Type 0 where
   pub a-held : x .a < 2 ^ 32
   pub b-held : x .b < 2 ^ 32
   pub need-held : x .need < 2 ^ 64
-
--- A number of 32 bits, or any that is no greater than ten digits can say, has ten digits at most.
-pub decimal-short : (n : ℕ) → n < 10 ^ 10 → length (decimal n) ≤ 10
-decimal-short n h = omega (arith, decimal-long n, places-at-most n 10 (omega arith) h)
-
--- No number has more than twenty digits.
-pub decimal-bounded : (n : ℕ) → length (decimal n) ≤ 20
-decimal-bounded n = omega (arith, decimal-long n, places-bounded n)
-
--- With its blank, a number of 32 bits has eleven codes at most,
-pub spaced-short : (n : ℕ) → n < 10 ^ 10 → length (spaced n) ≤ 11
-unfolding spaced
-spaced-short n h = omega (arith, decimal-short n h)
-
--- and any number twenty-one.
-pub spaced-bounded : (n : ℕ) → length (spaced n) ≤ 21
-unfolding spaced
-spaced-bounded n = omega (arith, decimal-bounded n)
 
 -- The head's line has at most 26 codes.
 pub head-short : (need : ℕ) → length (headLine need) ≤ 26

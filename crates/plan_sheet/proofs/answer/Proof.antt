@@ -4,7 +4,7 @@ use mathlib.Core.Path.{sym, _∙_, ap}
 use borrow.Author.Needs.{needs}
 use lib.ListN.{length}
 use lib.Seq.{length-take-le}
-use Rattle.reply_rule.specs.Replies.{text-within}
+use Rattle.text_pieces.specs.Replied.{text-within}
 use Rattle.plan_sheet.proofs.answer.Statement.{statement}
 use Rattle.plan_sheet.proofs.answer.Tie as tie
 
@@ -12,7 +12,7 @@ told : (c : tie.After-count) → let r = c .before .before .before in c .count .
 told c =
     let r = c .before .before .before in
     let kept = r .reply .kept .1 .0 in
-    rw kept (text-within _ _ _ (sym (r .reply .ensures .0) ∙ c .count .given .1) (ap length (sym (r .reply .ensures .1)) ∙ kept))
+    rw kept (text-within _ _ _ _ (sym (r .reply .ensures .0) ∙ c .count .given .1) (ap length (sym (r .reply .ensures .1)) ∙ kept))
 
 no-text-requires : tie.Need-no-text-requires
 no-text-requires c κs = search needs

@@ -2,7 +2,7 @@
 use native.Mathlib.Omega.{arith}
 use borrow.Author.Needs.{needs}
 use Rattle.plan_text.specs.AllOrNothing.{room-says}
-use Rattle.plan_text.specs.Put.{put-both, put-length}
+use Rattle.text_pieces.specs.Put.{put-both, put-length}
 use Rattle.text_rule.specs.Text.{planText}
 use Rattle.text_rule.specs.TextLengths.{head-short}
 use Rattle.plan_text.proofs.put_plan.Statement.{statement}

@@ -5,7 +5,7 @@ use native.Mathlib.Numerals.{add-one}
 use native.Mathlib.Omega.{arith}
 use borrow.Author.Needs.{needs}
 use lib.ListN.{length}
-use Rattle.plan_text.specs.Put.{Put, put-none, put-both, put-length}
+use Rattle.text_pieces.specs.Put.{Put, put-none, put-both, put-length}
 use Rattle.text_rule.specs.Text.{offsetIn, rowLine, rowLines}
 use Rattle.text_rule.specs.TextLengths.{row-short}
 use Rattle.plan_text.proofs.put_rows.Statement.{statement}

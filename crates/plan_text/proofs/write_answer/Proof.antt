@@ -8,7 +8,7 @@ use borrow.Author.Needs.{needs}
 use borrow.Author.Tests.{not-true, not-false}
 use lib.ListN.{length}
 use Rattle.plan_text.specs.AllOrNothing.{room-for, whole-written, nothing-written}
-use Rattle.plan_text.specs.Put.{Put, put-length}
+use Rattle.text_pieces.specs.Put.{Put, put-length}
 use Rattle.text_rule.specs.Text.{answerText, offsetIn}
 use Rattle.text_rule.specs.TextCases.{done-text, refused-text}
 use Rattle.text_rule.specs.TextLengths.{Held, refused-short}

@@ -16,9 +16,10 @@ use Rattle.sheet_rule.specs.Sheet.{rowCount, wordCount, sheetWords, sheetSpace}
 use Rattle.request_table.specs.Limits.{greatestRows}
 use Rattle.request_table.specs.Table.{rows}
 use Rattle.shape_rule.specs.ShapeTable.{shapeCount}
-use Rattle.reply_rule.specs.Replies.{Stands, no-room, stands-as, reply-stands, table-reply, shapes-reply, bad-reply}
+use Rattle.reply_rule.specs.Replies.{table-reply, shapes-reply, bad-reply}
 use Rattle.reply_rule.specs.Reply.{tableText, shapesText, replyText, replyOf, textAfter}
-use Rattle.reply_rule.specs.declared.Reply.the-variants.{Text}
+use Rattle.text_pieces.specs.Replied.{Stands, no-room, stands-as, reply-stands}
+use Rattle.text_pieces.specs.declared.Reply.the-variants.{Text}
 use Rattle.text_rule.specs.Text.{greatestText}
 use Rattle.request_sheet.proofs.Writing.{written}
 use Rattle.request_sheet.proofs.reply.Statement.{statement}
@@ -59,12 +60,12 @@ module _ (c : tie.After-read) {number n space : ℕ} (s : Table (sheetAt c) numb
   told : (text : List ℤ → ℕ → List ℕ) → text (sheetWords (sheetAt c)) (sheetSpace (sheetAt c)) ≡ replyText (sheetAt c) → {before after : List ℕ} {count : ℕ}
       → greatestText ≤ length before → Stands (text (take n (c .read .last .1 .0)) space) before after count
       → (Text count ≡ replyOf (sheetAt c) (length before)) × (after ≡ textAfter (sheetAt c) before)
-  told text e roomy w = reply-stands (sheetAt c) _ roomy (stands-as (ap₂ text lent-on (s .spaced) ∙ e) w)
+  told text e roomy w = reply-stands greatestText (replyText (sheetAt c)) _ roomy (stands-as (ap₂ text lent-on (s .spaced) ∙ e) w)
 
 -- ---- the needs
 
 returns : tie.Need-returns
-returns c = no-room _ _ (c .if1 .taken)
+returns c = no-room greatestText _ _ (c .if1 .taken)
 
 no-words-requires : tie.Need-no-words-requires
 no-words-requires c κs = search needs
@@ -141,7 +142,7 @@ returns-4 c =
     let roomy = r .before .before .before .if1 .left in
     let bad = bad-says (sheetAt r) (subst (ReadAs _) (sym (r .read .ensures .0) ∙ b .enum-told .given .1) (read-as _)) in
     let e = c .before .before .write-bad-sheet .ensures in
-    reply-stands (sheetAt r) _ roomy (stands-as (bad-reply (sheetAt r) bad) (written (omega arith) roomy (e .0) (e .1)))
+    reply-stands greatestText (replyText (sheetAt r)) _ roomy (stands-as (bad-reply (sheetAt r) bad) (written (omega arith) roomy (e .0) (e .1)))
 
 pub reply-spec : {M : Type 1} → statement M
 reply-spec =

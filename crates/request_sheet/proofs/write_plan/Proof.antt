@@ -12,7 +12,8 @@ use Rattle.text_rule.specs.Text.{answerText, offsetIn}
 use Rattle.request_table.specs.Limits.{greatestRows}
 use Rattle.request_table.specs.Table.{rows}
 use Rattle.reply_rule.specs.Reply.{tableText}
-use Rattle.reply_rule.specs.Replies.{stands-as, planned-told}
+use Rattle.reply_rule.specs.Replies.{planned-told}
+use Rattle.text_pieces.specs.Replied.{stands-as}
 use Rattle.request_sheet.proofs.Writing.{written}
 use Rattle.request_sheet.proofs.write_plan.Statement.{statement}
 use Rattle.request_sheet.proofs.write_plan.Tie as tie

@@ -8,7 +8,8 @@ use borrow.Author.Needs.{needs}
 use lib.IntN.{ℤ}
 use lib.ListN.{length, take}
 use Rattle.answer.specs.Answer.{numberOf}
-use Rattle.reply_rule.specs.Replies.{stands-as, shapes-refused, shapes-sized}
+use Rattle.reply_rule.specs.Replies.{shapes-refused, shapes-sized}
+use Rattle.text_pieces.specs.Replied.{stands-as}
 use Rattle.reply_rule.specs.Reply.{tableText}
 use Rattle.request_table.specs.Table.{rows}
 use Rattle.shape_rule.specs.ShapeAnswers.{Fitting, shapes-decide}

@@ -1,11 +1,11 @@
--- `plan_text::put_text` meets its contract: so much of the piece as was passed is put.
+-- `text_pieces::put_whole` meets its contract: so much of the piece as was passed is put.
 use Prim.Native.Nat.{_+_, _-_, _≤_}
 use native.Mathlib.Nat.{add-zero}
 use native.Mathlib.Omega.{arith}
 use lib.ListN.{length, take}
-use Rattle.plan_text.specs.Put.{Put, put-none, put-more, put-all, put-length}
-use Rattle.plan_text.proofs.put_text.Statement.{statement}
-use Rattle.plan_text.proofs.put_text.Tie as tie
+use Rattle.text_pieces.specs.Put.{Put, put-none, put-more, put-all, put-length}
+use Rattle.text_pieces.proofs.put_whole.Statement.{statement}
+use Rattle.text_pieces.proofs.put_whole.Tie as tie
 
 abbrev Inv-loop : tie.InvT-loop
 Inv-loop text₀ at piece count₀ text count = Put text₀ text at (at + count) (take count piece) × (count ≤ length piece)
@@ -45,8 +45,8 @@ same-length c = put-length (c .before .loop .inv .0)
 returns : tie.Need-returns Inv-loop μ-loop
 returns c = put-all _ (c .before .loop .count) (omega arith) (c .before .loop .inv .0)
 
-pub put-text-spec : {M : Type 1} → statement M
-put-text-spec =
+pub put-whole-spec : {M : Type 1} → statement M
+put-whole-spec =
     tie.close
     (tie.spec
     Inv-loop
