@@ -14,8 +14,8 @@ use Rattle.greedy_rule.specs.Greedy.{largerFirst, fixedRows, greedyOrder, greed
 use Rattle.greedy_rule.specs.Plan.{fixedCollide, greedyNeed, planOf}
 use Rattle.placement.specs.Placing.{put, free, top, lowest, offsetFor, placing, place}
 use Rattle.decimal_text.specs.Decimal.{places, decimal}
-use Rattle.text_pieces.specs.Pieces.{spaced}
-use Rattle.text_rule.specs.Text.{badSheetText, headLine, rowLine, rowLines, planText, refusedText, answerText}
+use Rattle.text_pieces.specs.Pieces.{spaced, linesBelow}
+use Rattle.text_rule.specs.Text.{badSheetText, headLine, rowLine, planText, refusedText, answerText}
 use Rattle.request_table.specs.Buffers.{liveTogether, shareByte, collides, endOrZero, need}
 use Rattle.request_table.specs.Table.{request, good}
 use Rattle.shape_rule.specs.ShapeTable.{tensorSize, badShape}
@@ -46,7 +46,7 @@ space175 = 175 ∷ 0 ∷ 0 ∷ 0 ∷ []
 
 -- The three sheets and their replies: Sheet A, the same in a space of 175, the same of version 2.
 pub replies : (replyText (sheetA 1) ∷ replyText (headOf 1 ++ space175 ++ rowsOfA) ∷ replyText (sheetA 2) ∷ []) ≡ (fourLines ∷ refusedLine ∷ badSheetText ∷ [])
-unfolding one count firstFrom firstIn holdsBelow greatest listFrom rank atRank inOrder partner hasPartner pairBelow pairFirst pairSecond natural isMinusOne roundedUp liveTogether shareByte collides endOrZero need request good put free top lowest offsetFor placing place largerFirst fixedRows greedyOrder greedyPlan fixedCollide greedyNeed planOf places decimal spaced headLine rowLine rowLines planText refusedText answerText tableText replyText marked rowWords wellFormed littleEndian signedWord wordOf wordsFrom
+unfolding one count firstFrom firstIn holdsBelow greatest listFrom rank atRank inOrder partner hasPartner pairBelow pairFirst pairSecond natural isMinusOne roundedUp liveTogether shareByte collides endOrZero need request good put free top lowest offsetFor placing place largerFirst fixedRows greedyOrder greedyPlan fixedCollide greedyNeed planOf places decimal spaced headLine rowLine linesBelow planText refusedText answerText tableText replyText marked rowWords wellFormed littleEndian signedWord wordOf wordsFrom
 replies = refl
 
 -- `head 32`, `0 0`.
@@ -59,5 +59,5 @@ refusedCode = 114 ∷ 101 ∷ 102 ∷ 117 ∷ 115 ∷ 101 ∷ 100 ∷ 32 ∷ 50 
 
 -- Sheets of version 2: one int8 of 7 by 3, and the same of a string.
 pub shaped-replies : (replyText (shapedSheet 9) ∷ replyText (shapedSheet 5) ∷ []) ≡ (twoLines ∷ refusedCode ∷ [])
-unfolding oneOf elementBytes elements prod hasNegative byteSizeOf tensorSize badShape requestWord sizedTable shapesOf one count firstFrom firstIn holdsBelow greatest listFrom rank atRank inOrder partner hasPartner pairBelow pairFirst pairSecond natural isMinusOne roundedUp liveTogether shareByte collides endOrZero need request good put free top lowest offsetFor placing place largerFirst fixedRows greedyOrder greedyPlan fixedCollide greedyNeed planOf places decimal spaced headLine rowLine rowLines planText refusedText answerText tableText shapesText replyText marked rowWords wellFormed littleEndian signedWord wordOf wordsFrom
+unfolding oneOf elementBytes elements prod hasNegative byteSizeOf tensorSize badShape requestWord sizedTable shapesOf one count firstFrom firstIn holdsBelow greatest listFrom rank atRank inOrder partner hasPartner pairBelow pairFirst pairSecond natural isMinusOne roundedUp liveTogether shareByte collides endOrZero need request good put free top lowest offsetFor placing place largerFirst fixedRows greedyOrder greedyPlan fixedCollide greedyNeed planOf places decimal spaced headLine rowLine linesBelow planText refusedText answerText tableText shapesText replyText marked rowWords wellFormed littleEndian signedWord wordOf wordsFrom
 shaped-replies = refl

@@ -1,6 +1,6 @@
 -- The text of an answer (document 01, "The request sheet"): the program "prints the plan, or `refused N a b need`, or `bad sheet`"; the plan is a line
 -- `head NEED`, then a line `ROW OFFSET` for each row by rising row. "Every line ends in one line feed." A text is the list of its ASCII codes.
-use Prim.Native.Nat.{ℕ, zero, suc, _+_, _*_}
+use Prim.Native.Nat.{ℕ, _+_, _*_}
 use mathlib.Core.Bool.{true, false}
 use mathlib.Core.List.{List, [], _∷_, _++_}
 use lib.Dec.{eqb}
@@ -10,7 +10,7 @@ use Rattle.answer.specs.Answer.{done}
 use Rattle.request_table.specs.Limits.{greatestRows}
 use Rattle.words.specs.Words.{wordAt, natural}
 use Rattle.decimal_text.specs.Decimal.{decimal}
-use Rattle.text_pieces.specs.Pieces.{lineFeed, spaced}
+use Rattle.text_pieces.specs.Pieces.{lineFeed, spaced, linesBelow}
 
 -- `head`
 abbrev pub headWord : List ℕ
@@ -33,9 +33,8 @@ unfoldable pub offsetIn : List ℤ → ℕ → ℕ
 offsetIn offsets row = natural (wordAt offsets row)
 
 -- The lines of the first n rows, by rising row.
-unfoldable pub rowLines : (ℕ → ℕ) → ℕ → List ℕ
-rowLines offsetOf zero = []
-rowLines offsetOf (suc n) = rowLines offsetOf n ++ rowLine n (offsetOf n)
+abbrev pub rowLines : (ℕ → ℕ) → ℕ → List ℕ
+rowLines offsetOf n = linesBelow (λ (row : ℕ). rowLine row (offsetOf row)) n
 
 -- The plan of n rows.
 unfoldable pub planText : ℕ → (ℕ → ℕ) → ℕ → List ℕ

@@ -1,5 +1,5 @@
 -- How long a text can be: no text over at most `greatestRows` offsets is longer than `greatestText`. The bound of the rows is proved for any number of them.
-use Prim.Native.Nat.{ℕ, zero, suc, _+_, _*_, _^_, _≤_, _<_}
+use Prim.Native.Nat.{ℕ, _+_, _*_, _^_, _≤_, _<_}
 use mathlib.Core.Bool.{Bool, true, false}
 use mathlib.Core.List.{List}
 use native.Mathlib.Omega.{arith}
@@ -11,7 +11,7 @@ use Rattle.answer.specs.declared.Answer.{Answer}
 use Rattle.answer.specs.Answer.{done}
 use Rattle.request_table.specs.Limits.{greatestRows}
 use Rattle.words.specs.Words.{wordAt, natural}
-use Rattle.text_pieces.specs.Pieces.{spaced, decimal-short, spaced-short, spaced-bounded}
+use Rattle.text_pieces.specs.Pieces.{spaced, decimal-short, spaced-short, spaced-bounded, lines-short}
 use Rattle.text_rule.specs.Text.{headLine, rowLine, offsetIn, rowLines, planText, refusedText, answerText, badSheetText, greatestText}
 
 -- The numbers of an answer are as wide as the code holds them: three of 32 bits, the need of 64.
@@ -33,11 +33,7 @@ row-short row offset h g = simp length-append (omega (arith, decimal-short row h
 
 -- So many rows have at most 22 each.
 pub rows-short : (offsetOf : ℕ → ℕ) (n : ℕ) → n ≤ 10 ^ 10 → ((k : ℕ) → k < n → offsetOf k < 2 ^ 32) → length (rowLines offsetOf n) ≤ 22 * n
-unfolding rowLines
-rows-short offsetOf zero l h = omega arith
-rows-short offsetOf (suc n) l h =
-    simp length-append
-    (omega (arith, rows-short offsetOf n (omega arith) (λ k m. h k (omega arith)), row-short n (offsetOf n) (omega arith) (h n (omega arith))))
+rows-short offsetOf n l h = lines-short (λ (row : ℕ). rowLine row (offsetOf row)) 22 n (λ k m. row-short k (offsetOf k) (omega arith) (h k m))
 
 -- A plan has its head's line and its rows'.
 pub plan-short : (need : ℕ) (offsetOf : ℕ → ℕ) (n : ℕ) → n ≤ 10 ^ 10 → ((k : ℕ) → k < n → offsetOf k < 2 ^ 32)

@@ -1,21 +1,18 @@
 -- A text depends on the offsets of its rows alone, and a refusal's on none.
-use Prim.Native.Nat.{ℕ, zero, suc, _<_}
+use Prim.Native.Nat.{ℕ, _<_}
 use mathlib.Core.List.{List, _++_}
 use mathlib.Core.Logic.{⊎-elim}
-use mathlib.Core.Path.{_≡_, refl, sym, _∙_, ap, ap₂}
-use native.Mathlib.Omega.{arith}
+use mathlib.Core.Path.{_≡_, sym, _∙_, ap}
 use Rattle.answer.specs.Answer.{done}
 use Rattle.answer.specs.declared.Answer.{Answer}
 use Rattle.bounded.specs.Boolean.{same-or-not}
+use Rattle.text_pieces.specs.Pieces.{lines-same}
 use Rattle.text_rule.specs.Text.{headLine, rowLine, rowLines, planText, answerText}
 use Rattle.text_rule.specs.TextCases.{done-text, refused-text}
 
 -- Offsets that agree on the rows give the same lines.
 pub rows-same : (f g : ℕ → ℕ) (n : ℕ) → ((r : ℕ) → r < n → f r ≡ g r) → rowLines f n ≡ rowLines g n
-unfolding rowLines
-rows-same f g zero h = refl
-rows-same f g (suc n) h =
-    ap₂ (λ (xs ys : List ℕ). xs ++ ys) (rows-same f g n (λ r l. h r (omega arith))) (ap (rowLine n) (h n (omega arith)))
+rows-same f g n h = lines-same (λ (row : ℕ). rowLine row (f row)) (λ (row : ℕ). rowLine row (g row)) n (λ r l. ap (rowLine r) (h r l))
 
 -- Offsets that agree on the rows of a done answer give it the same text.
 pub answer-same : (x : Answer) (f g : ℕ → ℕ) (n : ℕ) → (x .number ≡ done → (r : ℕ) → r < n → f r ≡ g r) → answerText x f n ≡ answerText x g n

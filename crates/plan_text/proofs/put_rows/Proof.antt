@@ -1,11 +1,11 @@
 -- `plan_text::put_rows` meets its contract: the lines of the rows passed are put, none longer than a line can be.
 use Prim.Native.Nat.{_+_, _*_, _-_, _≤_}
 use mathlib.Core.Path.{_≡_}
-use native.Mathlib.Numerals.{add-one}
 use native.Mathlib.Omega.{arith}
 use borrow.Author.Needs.{needs}
 use lib.ListN.{length}
 use Rattle.text_pieces.specs.Put.{Put, put-none, put-both, put-length}
+use Rattle.text_pieces.specs.Pieces.{no-lines, lines-more}
 use Rattle.text_rule.specs.Text.{offsetIn, rowLine, rowLines}
 use Rattle.text_rule.specs.TextLengths.{row-short}
 use Rattle.plan_text.proofs.put_rows.Statement.{statement}
@@ -19,8 +19,7 @@ abbrev μ-loop : tie.MeasureT-loop
 μ-loop text₀ at offsets next₀ row₀ text next row = length offsets - row .0
 
 loop-holds : tie.Need-loop-holds Inv-loop μ-loop
-unfolding rowLines
-loop-holds c = (put-none _ _ (omega (arith, c .before .pre)), omega arith, omega arith)
+loop-holds c = (rw no-lines (put-none _ _ (omega (arith, c .before .pre))), omega arith, omega arith)
 
 natural-requires : tie.Need-natural-requires Inv-loop μ-loop
 natural-requires c κs = search needs
@@ -42,12 +41,12 @@ loop-less : tie.Need-loop-less Inv-loop μ-loop
 loop-less c = omega (arith, c .before .before .before .before .before .before .if1 .taken)
 
 loop-again : tie.Need-loop-again Inv-loop μ-loop
-unfolding rowLines offsetIn
+unfolding offsetIn
 loop-again c =
     let at = c .before .before .before .before .before .before .before .before in
     let put = c .before .before .before .put-row .ensures in
     let read = c .before .before .before .before .before in (
-      rw (add-one, rowLines) (put-both (at .loop .inv .0) (rw (read .natural .ensures) at put)),
+      rw lines-more (put-both (at .loop .inv .0) (rw (read .natural .ensures) at put)),
       omega (arith, short read, put .ends, at .loop .inv .1),
       omega (arith, c .before .before .before .before .before .before .if1 .taken),
     )
