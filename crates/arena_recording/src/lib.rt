@@ -104,7 +104,8 @@ fn judge(sections: Sections, ledger: Ledger, kind: u32, size: u32, alignment: u3
     if told == Answer::SECTIONS_NOT_VALID {
         return allocation;
     }
-    if !is_balanced(ledger, sections.usable - sections.tail) {
+    let taken = sections.usable - sections.tail;
+    if !is_balanced(ledger, taken) {
         return Outcome::refused(Answer::SECTIONS_NOT_VALID, sections);
     }
     if misaligned {
@@ -128,9 +129,9 @@ fn with_allocation(ledger: Ledger, kind: u32, size: u32, taken: u32) -> Ledger
     recorded.requested += size;
     recorded.used += taken;
     recorded.count += 1;
-    let at = kind as usize;
+    let entry = kind as usize;
     let mut next = ledger;
-    next.kinds[at] = recorded;
+    next.kinds[entry] = recorded;
     next
 }
 

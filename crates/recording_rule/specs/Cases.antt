@@ -60,30 +60,30 @@ module _ (g : ℕ) (s : Sections) (l : Ledger) (kind size a : ℕ) where
 
   -- The sections' state is not valid.
   pub by-state : valid s ≡ false → refusedOutcome sectionsNotValid s ≡ recordedOf g s l kind size a
-  by-state v = gives (given (rw v))
+  by-state v = gives (given (ap not v))
 
   module _ (v : valid s ≡ true) where
     -- The ledger is not balanced.
     pub by-ledger : balanced l taken ≡ false → refusedOutcome sectionsNotValid s ≡ recordedOf g s l kind size a
-    by-ledger b = gives (next (rw v) (given (rw b)))
+    by-ledger b = gives (next (ap not v) (given (ap not b)))
 
     module _ (b : balanced l taken ≡ true) where
       past : {o : Outcome} → Gives (kindCauses g s l kind a ++ persistentRoom s size a) (persistentDone s size a) o → o ≡ recordedOf g s l kind size a
-      past x = gives (next (rw v) (next (rw b) x))
+      past x = gives (next (ap not v) (next (ap not b) x))
 
       -- The alignment is not allowed.
       pub by-alignment : allowed g a ≡ false → refusedOutcome badAlignment s ≡ recordedOf g s l kind size a
-      by-alignment w = past (given (rw w))
+      by-alignment w = past (given (ap not w))
 
       module _ (w : allowed g a ≡ true) where
         -- No kind has the code.
         pub by-kind : kindCount ≤ kind → refusedOutcome badAllocationKind s ≡ recordedOf g s l kind size a
-        by-kind h = past (next (rw w) (given (le-leb _ _ h)))
+        by-kind h = past (next (ap not w) (given (le-leb _ _ h)))
 
         module _ (h : kind < kindCount) where
           -- The kind has all that it takes.
           pub by-count : greatestCount ≤ ofKind l kind .count → refusedOutcome tooMany s ≡ recordedOf g s l kind size a
-          by-count m = past (next (rw w) (next (lt-leb _ _ h) (given (le-leb _ _ m))))
+          by-count m = past (next (ap not w) (next (lt-leb _ _ h) (given (le-leb _ _ m))))
 
           -- The sections' own outcome stands.
           pub by-sections : ofKind l kind .count < greatestCount → persistentOf g s size a ≡ recordedOf g s l kind size a
@@ -92,7 +92,7 @@ module _ (g : ℕ) (s : Sections) (l : Ledger) (kind size a : ℕ) where
               go : Own g s size a → persistentOf g s size a ≡ recordedOf g s l kind size a
               go (not-valid x p) = contrary v x
               go (not-allowed x y p) = contrary w y
-              go (decided x y p) = p ∙ past (next (rw w) (next (lt-leb _ _ h) (next (lt-leb _ _ m) record { is = refl })))
+              go (decided x y p) = p ∙ past (next (ap not w) (next (lt-leb _ _ h) (next (lt-leb _ _ m) record { is = refl })))
 
 -- ---- by the number of the sections' own allocation
 

@@ -41,8 +41,8 @@ of-kind-requires c κs = search needs
 returns : tie.Need-returns
 returns c = told-not-valid _ _ _ _ _ (c .before .before .before .allocate-persistent .ensures) _ _ (c .if1 .taken)
 
-sub-is-balanced : tie.Need-sub-is-balanced
-sub-is-balanced c = valid-says _ (state (c .before)) .tail-usable
+sub-taken : tie.Need-sub-taken
+sub-taken c = valid-says _ (state (c .before)) .tail-usable
 
 is-balanced-requires : tie.Need-is-balanced-requires
 is-balanced-requires c κs = search needs
@@ -104,7 +104,7 @@ judge-spec =
     allocate-persistent-requires
     of-kind-requires
     returns
-    sub-is-balanced
+    sub-taken
     is-balanced-requires
     refused-requires
     returns-2

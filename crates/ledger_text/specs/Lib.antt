@@ -1,0 +1,2 @@
+pub mod LedgerText
+pub mod LedgerExample
