@@ -1,2 +1,3 @@
 pub mod LedgerText
 pub mod LedgerExample
+pub mod LedgerLengths

@@ -12,6 +12,7 @@ use lib.Dec.{leb}
 use lib.ListN.{length, getD, set, take, drop, length-append}
 use lib.Seq.{sets, length-sets, sets-eq, take-suc, take-length}
 use Rattle.bounded.specs.Boolean.{same-test}
+use Rattle.text_pieces.specs.Pieces.{linesBelow, no-lines}
 
 -- Whether so many bytes have room for a piece of a length at a place.
 unfoldable pub hasRoom : ℕ → ℕ → ℕ → Bool
@@ -50,6 +51,10 @@ put-length {t} {u} {p} {at} {e} x = ap length (x .bytes) ∙ length-sets t at p
 -- Nothing put.
 pub put-none : (t : List ℕ) (at : ℕ) → at ≤ length t → Put t t at at []
 put-none t at l = record { ends = sym (add-zero at); inside = l; bytes = refl }
+
+-- No line put.
+pub put-no-line : (t : List ℕ) (at : ℕ) (lineOf : ℕ → List ℕ) → at ≤ length t → Put t t at at (linesBelow lineOf 0)
+put-no-line t at lineOf l = rw (no-lines lineOf) (put-none t at l)
 
 -- Two pieces, the second where the first ended.
 pub put-both : {t u v p q : List ℕ} {at m e : ℕ} → Put t u at m p → Put u v m e q → Put t v at e (p ++ q)

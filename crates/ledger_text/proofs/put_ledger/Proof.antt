@@ -4,8 +4,8 @@ use mathlib.Core.Path.{_≡_}
 use native.Mathlib.Omega.{arith}
 use Rattle.ledger_text.specs.LedgerText.{recordLine, greatestLine}
 use Rattle.recording_rule.specs.Ledger.{kindCount, ofKind}
-use Rattle.text_pieces.specs.Pieces.{linesBelow, no-lines, lines-more}
-use Rattle.text_pieces.specs.Put.{Put, put-none, put-both, put-length}
+use Rattle.text_pieces.specs.Pieces.{linesBelow, lines-more}
+use Rattle.text_pieces.specs.Put.{Put, put-no-line, put-both, put-length}
 use Rattle.ledger_text.proofs.put_ledger.Statement.{statement}
 use Rattle.ledger_text.proofs.put_ledger.Tie as tie
 
@@ -17,7 +17,7 @@ abbrev μ-loop : tie.MeasureT-loop
 μ-loop text₀ ledger next₀ code₀ text next code = kindCount - code
 
 loop-holds : tie.Need-loop-holds Inv-loop μ-loop
-loop-holds c = (rw no-lines (put-none _ _ (omega arith)), omega arith, omega arith)
+loop-holds c = (put-no-line _ _ _ (omega arith), omega arith, omega arith)
 
 put-line-requires : tie.Need-put-line-requires Inv-loop μ-loop
 put-line-requires c κs =

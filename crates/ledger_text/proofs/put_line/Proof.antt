@@ -4,7 +4,8 @@ use mathlib.Core.List.{List}
 use mathlib.Core.Path.{subst}
 use native.Mathlib.Omega.{arith}
 use borrow.Author.Needs.{needs}
-use Rattle.ledger_text.specs.LedgerText.{Held, recordLine, line-short}
+use Rattle.ledger_text.specs.LedgerLengths.{Held, line-short}
+use Rattle.ledger_text.specs.LedgerText.{recordLine}
 use Rattle.recording_rule.specs.declared.RecordedAllocation.{RecordedAllocation}
 use Rattle.text_pieces.specs.Pieces.{lineFeed, spaced}
 use Rattle.text_pieces.specs.Put.{Put, Room, first, more, chain-put}

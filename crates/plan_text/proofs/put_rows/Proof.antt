@@ -4,8 +4,8 @@ use mathlib.Core.Path.{_≡_}
 use native.Mathlib.Omega.{arith}
 use borrow.Author.Needs.{needs}
 use lib.ListN.{length}
-use Rattle.text_pieces.specs.Put.{Put, put-none, put-both, put-length}
-use Rattle.text_pieces.specs.Pieces.{no-lines, lines-more}
+use Rattle.text_pieces.specs.Put.{Put, put-no-line, put-both, put-length}
+use Rattle.text_pieces.specs.Pieces.{lines-more}
 use Rattle.text_rule.specs.Text.{offsetIn, rowLine, rowLines}
 use Rattle.text_rule.specs.TextLengths.{row-short}
 use Rattle.plan_text.proofs.put_rows.Statement.{statement}
@@ -19,7 +19,7 @@ abbrev μ-loop : tie.MeasureT-loop
 μ-loop text₀ at offsets next₀ row₀ text next row = length offsets - row .0
 
 loop-holds : tie.Need-loop-holds Inv-loop μ-loop
-loop-holds c = (rw no-lines (put-none _ _ (omega (arith, c .before .pre))), omega arith, omega arith)
+loop-holds c = (put-no-line _ _ _ (omega (arith, c .before .pre)), omega arith, omega arith)
 
 natural-requires : tie.Need-natural-requires Inv-loop μ-loop
 natural-requires c κs = search needs
