@@ -34,8 +34,6 @@ const SHAPE_WORDS: usize = 3354;
 
 const LENT_REQUEST_WORDS: usize = 1040;
 
-const LEDGER_BYTES: usize = 300;
-
 // Requests; space; room for offsets.
 fn plan_requests(body: &[u8]) {
     let mut table = [0i32; REQUEST_WORDS];
@@ -135,25 +133,6 @@ fn from_shapes(body: &[u8]) {
     print::words(b"; requests", requests);
 }
 
-// Head; temp; tail; usable; ledger; kind; size; alignment.
-fn record(body: &[u8]) {
-    print::recording(arena_recording::allocate_persistent(
-        read::sections(body),
-        read::ledger(body, 4),
-        read::number(body, 5),
-        read::number(body, 6),
-        read::number(body, 7),
-    ));
-}
-
-// Ledger; room for text.
-fn write_ledger(body: &[u8]) {
-    let mut lent = [170; LEDGER_BYTES];
-    let text = read::lent_bytes(body, 1, &mut lent);
-    print::reply(ledger_text::write_ledger(read::ledger(body, 0), text));
-    print::bytes(b"; bytes", text);
-}
-
 // What a function of the sections answers and hands back. Opening them takes start; length. The others take head; temp; tail; usable; and two arguments,
 // of which the reset takes none and setting the head one.
 fn operate(function: usize, body: &[u8]) -> Outcome {
@@ -180,8 +159,6 @@ pub(crate) fn call(function: usize, body: &[u8]) {
         functions::REPLY => reply_to(body),
         functions::BYTE_SIZE => byte_size(body),
         functions::FROM_SHAPES => from_shapes(body),
-        functions::RECORD => record(body),
-        functions::WRITE_LEDGER => write_ledger(body),
         functions::NONE => print::text(b" not a vector"),
         _ => print::outcome(operate(function, body)),
     }

@@ -31,12 +31,8 @@ pub const BYTE_SIZE: usize = 12;
 
 pub const FROM_SHAPES: usize = 13;
 
-pub const RECORD: usize = 14;
-
-pub const WRITE_LEDGER: usize = 15;
-
 // How many there are; this stands for a line that is no vector.
-pub const NONE: usize = 16;
+pub const NONE: usize = 14;
 
 // Whether a field keeps to its limit. Words are only counted here, so that their table needs no room for them.
 fn field_fits(field: &[u8], limit: &[u8]) -> bool {
@@ -108,8 +104,6 @@ read:1100*;4294967295;260
 write:260*;1100
 reply:13400*;6000
 byte_size:12*;-
-from_shapes:3354*;1040
-record:4294967295;4294967295;4294967295;4294967295;18*;4294967295;4294967295;4294967295
-write_ledger:18*;300",
+from_shapes:3354*;1040",
     )
 }

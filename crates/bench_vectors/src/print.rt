@@ -1,13 +1,9 @@
 // What a vector's line says, on standard output.
 ghost use Prim.Native.Nat.{_≤_};
 ghost use lib.ListN.{length};
-use crate::read;
 use answer::Answer;
 use arena_sections::Outcome;
-use arena_sections::Sections;
 use libc::STDOUT_FILENO;
-use recording_rule::Ledger;
-use recording_rule::Recording;
 use request_sheet::Reply;
 
 pub(crate) fn text(text: &[u8]) {
@@ -41,8 +37,10 @@ pub(crate) fn answer(answer: Answer) {
     four(answer.number, answer.a, answer.b, answer.need);
 }
 
-// The state of the sections.
-fn sections(sections: Sections) {
+// The answer, and the state that is handed back.
+pub(crate) fn outcome(outcome: Outcome) {
+    let sections = outcome.sections;
+    answer(outcome.answer);
     text(b"; sections");
     four(
         sections.head,
@@ -52,30 +50,14 @@ fn sections(sections: Sections) {
     );
 }
 
-// The answer, and the state that is handed back.
-pub(crate) fn outcome(outcome: Outcome) {
-    answer(outcome.answer);
-    sections(outcome.sections);
-}
-
-// The three numbers of each kind.
-fn ledger(ledger: Ledger) {
-    text(b"; ledger");
-    let mut kind = 0;
-    while kind < Ledger::KINDS {
-        let recorded = arena_recording::of_kind(ledger, kind);
-        spaced(recorded.requested as u64);
-        spaced(recorded.used as u64);
-        spaced(recorded.count as u64);
-        kind += 1;
+// The bits of an entry, which tell two entries apart and a negative one from the others.
+fn bits(table: &[i32], at: usize) -> u32 {
+    if table.len() <= at {
+        return 0;
     }
-}
-
-// The answer, and the state and the ledger that are handed back.
-pub(crate) fn recording(recording: Recording) {
-    answer(recording.answer);
-    sections(recording.sections);
-    ledger(recording.ledger);
+    let mut bytes = [0u8; 4];
+    stored_words::put_word(&mut bytes, 0, table[at]);
+    word_bytes::unsigned32(&bytes, 0)
 }
 
 // The signed number of so many bits. From half on it is negative.
@@ -104,10 +86,10 @@ pub(crate) fn words(heading: &[u8], table: &[i32]) {
     let mut count = 0;
     let mut at = 0;
     while at < table.len() {
-        let number = read::bits(table, at);
+        let number = bits(table, at);
         count += 1;
         at += 1;
-        if (at == table.len()) | (read::bits(table, at) != number) {
+        if (at == table.len()) | (bits(table, at) != number) {
             copies(count, number);
             count = 0;
         }

@@ -1,57 +1,20 @@
-// Fields of numbers with spaces between. `12*7` stands for twelve sevens, and `12*16,0,0,-1` for twelve such rows. What is read was found to be numbers that
-// fit before: where it is none, the readers give what they have, and no caller has a fact to show.
-ghost use Prim.Native.Nat.{_≤_, _<_};
+// Fields of numbers with spaces between. `12*7` stands for twelve sevens. What is read was found to be numbers that fit before: where it is none, the
+// readers give what they have, and no caller has a fact to show.
+ghost use Prim.Native.Nat.{_≤_};
 ghost use lib.ListN.{length};
 use crate::text;
 use arena_sections::Sections;
 use decimal_text::Word;
-use recording_rule::Ledger;
-use recording_rule::RecordedAllocation;
 
-// A ledger has three words for each of its six kinds.
-const LEDGER_WORDS: usize = 18;
-
-// How often the row of an entry stands in its table, by the stars in it.
-fn times(entry: &[u8], stars: usize) -> u64 {
-    if stars == 0 {
+// How often an entry stands in its table, of so many stars and with a good number or none.
+fn times(entry: &[u8], stars: usize, good: bool) -> u64 {
+    if good & (stars == 0) {
         return 1;
     }
-    if stars == 1 {
+    if good & (stars == 1) {
         return decimal_text::natural(text::part(entry, 0, b'*'));
     }
     decimal_text::NO_NUMBER
-}
-
-// The product, which is no number where one of the two is larger than any table.
-fn product(a: u64, b: u64) -> u64 {
-    if 1000000 < a {
-        return decimal_text::NO_NUMBER;
-    }
-    if 1000000 < b {
-        return decimal_text::NO_NUMBER;
-    }
-    a * b
-}
-
-// The number at a place of a row, where the row starts anew behind its last.
-fn in_row(row: &[u8], width: usize, place: usize) -> Word
-    requires { ⌜ 0 < width ⌝ }
-{
-    decimal_text::signed(text::part(row, place % width, b','))
-}
-
-// Whether each of a row's numbers is one.
-fn is_row(row: &[u8], width: usize) -> bool
-    requires { ⌜ 0 < width ⌝ }
-{
-    let mut place = 0;
-    while place < width {
-        if !in_row(row, width, place).good {
-            return false;
-        }
-        place += 1;
-    }
-    true
 }
 
 // The sum, which past the range is no number either.
@@ -62,17 +25,13 @@ fn sum(a: u64, b: u64) -> u64 {
     a + b
 }
 
-// Stores a row again and again at the places from start to end that the table has.
-fn fill(table: &mut [i32], start: usize, end: usize, row: &[u8], width: usize)
-    requires { ⌜ 0 < width ⌝ }
-{
+// Stores a number at each place from start to end that the table has.
+fn fill(table: &mut [i32], start: usize, end: usize, number: i32) {
     let mut at = start;
     while at < end {
         if table.len() <= at {
             return;
         }
-        let word = in_row(row, width, at - start);
-        let number = word.value;
         table[at] = number;
         at += 1;
     }
@@ -84,13 +43,9 @@ fn put(entry: &[u8], count: usize, table: &mut [i32]) -> usize {
         return count;
     }
     let stars = text::last(entry, b'*');
-    let row = text::part(entry, stars, b'*');
-    let width = text::last(row, b',') + 1;
-    if !is_row(row, width) {
-        return decimal_text::NO_NUMBER as usize;
-    }
-    let end = sum(count as u64, product(times(entry, stars), width as u64)) as usize;
-    fill(table, count, end, row, width);
+    let word = decimal_text::signed(text::part(entry, stars, b'*'));
+    let end = sum(count as u64, times(entry, stars, word.good)) as usize;
+    fill(table, count, end, word.value);
     end
 }
 
@@ -182,35 +137,6 @@ pub(crate) fn lent_words<'a>(body: &[u8], field: usize, table: &'a mut [i32]) ->
         return table;
     }
     &mut table[..length]
-}
-
-// The bits of an entry, which tell two entries apart and a negative one from the others.
-pub(crate) fn bits(table: &[i32], at: usize) -> u32 {
-    if table.len() <= at {
-        return 0;
-    }
-    let mut bytes = [0u8; 4];
-    stored_words::put_word(&mut bytes, 0, table[at]);
-    word_bytes::unsigned32(&bytes, 0)
-}
-
-// Reads a ledger from a field of three words for each kind. A number of 32 bits is read as a signed word's bits, so that -1 is the greatest; words that are
-// left out are 0.
-pub(crate) fn ledger(body: &[u8], field: usize) -> Ledger {
-    let mut room = [0i32; LEDGER_WORDS];
-    let words = table(body, field, &mut room);
-    let mut ledger = arena_recording::empty_ledger();
-    let mut kind = 0;
-    while kind < 6 {
-        let at = kind * 3;
-        ledger.kinds[kind] = RecordedAllocation {
-            requested: bits(words, at),
-            used: bits(words, at + 1),
-            count: bits(words, at + 2),
-        };
-        kind += 1;
-    }
-    ledger
 }
 
 // Reads a state of the sections: the fields 0 to 3 are head, temp, tail and usable.

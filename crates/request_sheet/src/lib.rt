@@ -1,8 +1,8 @@
 // The reply to a request sheet (document 01, "The request sheet"; document 02, order 1, for version 2): the sheet is read, its shapes sized where it has
 // them, its table planned and the answer told as text. Reading a sheet and writing a text are crates that do not know each other.
 pub use plan_text::GREATEST_TEXT;
-pub use text_pieces::Reply;
 pub use sheet_bytes::GREATEST_SHEET;
+pub use text_pieces::Reply;
 ghost use Prim.Native.Nat.{_*_, _%_, _≤_};
 ghost use mathlib.Core.Path.{_≡_};
 ghost use lib.ListN.{length};

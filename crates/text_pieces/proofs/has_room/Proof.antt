@@ -7,7 +7,6 @@ use Rattle.text_pieces.proofs.has_room.Tie as tie
 returns : tie.Need-returns
 returns c = no-room _ (c .before .args .at) _ (c .if1 .taken)
 
-
 returns-2 : tie.Need-returns-2
 returns-2 c = room-by-rest _ _ _ (omega arith)
 

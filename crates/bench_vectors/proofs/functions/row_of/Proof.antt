@@ -8,7 +8,7 @@ abbrev Inv-loop : tie.InvT-loop
 Inv-loop line rows row₀ row = Unit {0}
 
 abbrev μ-loop : tie.MeasureT-loop
-μ-loop line rows row₀ row = 16 - row
+μ-loop line rows row₀ row = 14 - row
 
 loop-holds : tie.Need-loop-holds Inv-loop μ-loop
 loop-holds c = tt
