@@ -1,13 +1,12 @@
 -- The outcomes as the code comes to them, cause after cause. This file stands behind the law of histories, so that a definition that breaks the law is
 -- refused by the law before any code is.
-use Prim.Native.Nat.{ℕ, _+_, _-_, _%_, _<_, _≤_}
+use Prim.Native.Nat.{ℕ, _+_, _<_, _≤_}
 use mathlib.Core.Bool.{true, false}
 use mathlib.Core.Logic.{inl, inr}
 use mathlib.Core.Path.{_≡_, refl, sym, _∙_, ap}
 use native.Mathlib.Omega.{arith}
-use borrow.Author.Tests.{lt-ltb, le-ltb, ne-eqb, eq-eqb, not-false}
-use Rattle.alignment.specs.Alignments.{loss, allowed, allowed-says, allowed-some}
-use Rattle.alignment.specs.Rounding.{down-rest}
+use borrow.Author.Tests.{lt-ltb, le-ltb, ne-eqb, eq-eqb}
+use Rattle.alignment.specs.Alignments.{loss, allowed}
 use Rattle.answer.specs.Answer.{sectionsNotValid, badAlignment, noRoom, temporariesOut, headMadeSmaller}
 use Rattle.bounded.specs.Causes.{NoneHolds, firstCause, follows-more, by-causes, passed, refused-stands}
 use Rattle.arena_sections.specs.Room.{not-usable-of, usable-of, full-of, room-of, temp-full-of, temp-room-of}
@@ -60,14 +59,10 @@ module _ (g : ℕ) (s : Sections) (a : ℕ) where
   unfolding allocationOf
   allocation-passes v w = rw (v, w, firstCause)
 
-  -- Where they passed, neither holds,
+  -- Where they passed, neither holds.
   pub allocation-passed : allocationNumber ≡ 0 → NoneHolds (allocationCauses g s a)
   unfolding allocationOf
   allocation-passed e = passed numberOf (allocationCauses g s a) (doneOutcome 0 s) (omega arith, (omega arith, tt)) e .0
-
-  -- so that the alignment is above 0.
-  pub alignment-some : allocationNumber ≡ 0 → 0 < a
-  alignment-some e = allowed-some g a (allowed-says g a (not-false (allowed g a) (allocation-passed e .1 .0)))
 
   allocation-refusal : {n : ℕ} → n ≡ allocationNumber → (n ≡ 0 → ⊥) → refusedOutcome n s ≡ allocationOf g s a
   unfolding allocationOf
@@ -79,10 +74,6 @@ module _ (g : ℕ) (s : Sections) (a : ℕ) where
       (λ z. h (e ∙ z))
 
 -- ---- the allocations
-
--- What is below the tail, less the gap, is where a persistent allocation starts.
-pub start-by-gap : (s : Sections) (size a : ℕ) → s .tail - size - (s .tail - size) % a ≡ persistentStart s size a
-start-by-gap s size a = omega (arith, down-rest a (s .tail - size))
 
 module _ (g : ℕ) (s : Sections) (size a : ℕ) where
   -- A refusal by 13 or 14 is the persistent allocation's,

@@ -21,7 +21,7 @@ use Rattle.recording_rule.specs.Balance.{Balanced, balanced-says, balanc
 use Rattle.recording_rule.specs.Cases.{by-state, by-ledger, by-alignment, by-kind, by-count, by-sections, recorded-ledger, refused-ledger, recorded-says}
 use Rattle.recording_rule.specs.Kinds.{Named, named-of, named-says}
 use Rattle.recording_rule.specs.Ledger.{kindCount, greatestCount, ofKind, balanced, withKeep, withKeepOf}
-use Rattle.recording_rule.specs.Recording.{recordingCauses, recordedOf, ledgerAfter, recordingOf}
+use Rattle.recording_rule.specs.Recording.{recordingCauses, recordedOf, recordingOf}
 use Rattle.recording_rule.specs.declared.Ledger.{Ledger}
 use Rattle.recording_rule.specs.declared.RecordedAllocation.{RecordedAllocation}
 

@@ -18,7 +18,7 @@ use Rattle.arena_sections.specs.History.{Kept, Held, tailBy, used, effectBy, ef
 use Rattle.arena_sections.specs.History.Effect.{nothing}
 use Rattle.arena_sections.specs.History.Operation.{allocatePersistent}
 use Rattle.arena_sections.specs.OperationEffects.{HasEffect, has-effect}
-use Rattle.arena_sections.specs.Sections.{allocationCauses, persistentRoom, persistentDone, persistentOf, openOf, gapBelow}
+use Rattle.arena_sections.specs.Sections.{allocationCauses, persistentRoom, persistentDone, persistentOf, openOf}
 use Rattle.arena_sections.specs.SoundHistory.{Sound, books-sound, books-step, opening-begins}
 use Rattle.arena_sections.specs.declared.Sections.{Sections}
 use Rattle.bounded.specs.Boolean.{same-or-not}
