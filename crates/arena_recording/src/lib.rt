@@ -4,92 +4,13 @@ ghost use Prim.Native.Nat.{_-_};
 ghost use mathlib.Core.Path.{_≡_};
 ghost use Rattle.arena_sections.specs.Sections.{baseAlignment};
 ghost use Rattle.recording_rule.specs.Cases.{Recordable};
-ghost use Rattle.recording_rule.specs.Ledger.{
-  kindCount,
-  nothingRecorded,
-  emptyLedger,
-  ofKind,
-  totalUsed,
-  passesUsed,
-  balanced as balancedAgainst,
-  withKeepOf,
-};
+ghost use Rattle.recording_rule.specs.Ledger.{withKeepOf};
 ghost use Rattle.recording_rule.specs.Recording.{recordedOf, recordingOf};
-ghost use Rattle.bounded.specs.First.{holdsBelow};
 use answer::Answer;
 use arena_sections::Outcome;
 use arena_sections::Sections;
 use recording_rule::Ledger;
-use recording_rule::RecordedAllocation;
 use recording_rule::Recording;
-
-// Nothing recorded.
-fn nothing_recorded() -> RecordedAllocation
-    ensures { λ r. ⌜ r ≡ nothingRecorded ⌝ }
-{
-    RecordedAllocation {
-        requested: 0,
-        used: 0,
-        count: 0,
-    }
-}
-
-// A ledger of zeros, to begin with.
-pub fn empty_ledger() -> Ledger
-    ensures { λ r. ⌜ r ≡ emptyLedger ⌝ }
-{
-    Ledger {
-        kinds: [nothing_recorded(); 6],
-    }
-}
-
-// What was recorded of a kind; of a code that no kind has, nothing.
-pub fn of_kind(ledger: Ledger, kind: u32) -> RecordedAllocation
-    ensures { λ r. ⌜ r ≡ ofKind ledger kind ⌝ }
-{
-    if Ledger::KINDS <= kind {
-        return nothing_recorded();
-    }
-    let at = kind as usize;
-    ledger.kinds[at]
-}
-
-// The used bytes of all kinds. Six numbers of 32 bits need more than 32.
-fn total_used(ledger: Ledger) -> u64
-    ensures { λ r. ⌜ r ≡ totalUsed (ledger .kinds) ⌝ }
-{
-    let mut total = 0;
-    let mut kind = 0;
-    while kind < Ledger::KINDS {
-        let recorded = of_kind(ledger, kind);
-        total += recorded.used as u64;
-        kind += 1;
-    }
-    total
-}
-
-// Whether some kind's requested bytes pass its used bytes.
-fn some_passes(ledger: Ledger) -> bool
-    ensures { λ r. ⌜ r ≡ holdsBelow (passesUsed ledger) kindCount ⌝ }
-{
-    let mut kind = 0;
-    while kind < Ledger::KINDS {
-        let recorded = of_kind(ledger, kind);
-        if recorded.used < recorded.requested {
-            return true;
-        }
-        kind += 1;
-    }
-    false
-}
-
-// Whether the ledger agrees with itself and with the bytes that the tail has taken.
-fn is_balanced(ledger: Ledger, taken: u32) -> bool
-    ensures { λ r. ⌜ r ≡ balancedAgainst ledger taken ⌝ }
-{
-    let passes = some_passes(ledger);
-    (total_used(ledger) == taken as u64) & !passes
-}
 
 // The sections' own allocation, with what the ledger refuses told in its place: 13 behind the sections' own 13, and 25 and 2 between 14 and 15. The last
 // three tests are made before the first is told, so that their order can be read off.
@@ -100,12 +21,12 @@ fn judge(sections: Sections, ledger: Ledger, kind: u32, size: u32, alignment: u3
     let told = allocation.answer.number;
     let misaligned = told == Answer::BAD_ALIGNMENT;
     let unnamed = Ledger::KINDS <= kind;
-    let full = Ledger::GREATEST_COUNT <= of_kind(ledger, kind).count;
+    let full = Ledger::GREATEST_COUNT <= ledger_entries::of_kind(ledger, kind).count;
     if told == Answer::SECTIONS_NOT_VALID {
         return allocation;
     }
     let taken = sections.usable - sections.tail;
-    if !is_balanced(ledger, taken) {
+    if !ledger_entries::is_balanced(ledger, taken) {
         return Outcome::refused(Answer::SECTIONS_NOT_VALID, sections);
     }
     if misaligned {
@@ -125,7 +46,7 @@ fn with_allocation(ledger: Ledger, kind: u32, size: u32, taken: u32) -> Ledger
     requires { ⌜ Recordable ledger kind size taken ⌝ }
     ensures { λ r. ⌜ r ≡ withKeepOf ledger kind size (taken - size) ⌝ }
 {
-    let mut recorded = of_kind(ledger, kind);
+    let mut recorded = ledger_entries::of_kind(ledger, kind);
     recorded.requested += size;
     recorded.used += taken;
     recorded.count += 1;

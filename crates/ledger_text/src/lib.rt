@@ -20,7 +20,7 @@ fn put_line(text: &mut [u8], at: usize, ledger: Ledger, code: u32) -> usize
     ensures line { λ r. ⌜ Put (now (text .entry)) (now (text .exit)) at r (recordLine code (ofKind ledger code)) ⌝ }
     ensures short { λ r. ⌜ r ≤ at + greatestLine ⌝ }
 {
-    let recorded = arena_recording::of_kind(ledger, code);
+    let recorded = ledger_entries::of_kind(ledger, code);
     let after_code = put_number(text, at, b"", code as u64);
     let after_requested = put_number(text, after_code, b" ", recorded.requested as u64);
     let after_used = put_number(text, after_requested, b" ", recorded.used as u64);

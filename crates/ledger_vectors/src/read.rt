@@ -60,7 +60,7 @@ pub(crate) fn number(text: &[u8], start: usize, end: usize) -> u32
 
 // The ledger of a vector.
 pub(crate) fn ledger(numbers: [u32; VECTOR_NUMBERS]) -> Ledger {
-    let mut ledger = arena_recording::empty_ledger();
+    let mut ledger = ledger_entries::empty_ledger();
     let mut kind = 0;
     while kind < 6 {
         let requested = FIRST_OF_LEDGER + kind * 3;

@@ -1,12 +1,8 @@
 // Plans a request sheet: standard input to standard output. All that matters is in `request_sheet`.
-ghost use mathlib.Core.Path.{_≡_};
-ghost use lib.ListN.{length};
-ghost use Rattle.text_rule.specs.Text.{greatestText};
 use libc::STDIN_FILENO;
 use libc::STDOUT_FILENO;
 use request_sheet::GREATEST_SHEET;
 use request_sheet::GREATEST_TEXT;
-use request_sheet::Reply;
 
 // One byte more than the longest sheet has, so that a longer input is seen to be longer.
 const INPUT_BYTES: usize = GREATEST_SHEET + 1;
@@ -15,21 +11,15 @@ fn no_input() -> [u8; INPUT_BYTES] {
     [0; INPUT_BYTES]
 }
 
-fn no_text() -> [u8; GREATEST_TEXT]
-    ensures { λ r. ⌜ greatestText ≡ length r ⌝ }
-{
+fn no_text() -> [u8; GREATEST_TEXT] {
     [0; GREATEST_TEXT]
 }
 
 // Writes the reply to a sheet.
 fn answer(sheet: &[u8]) {
     let mut text = no_text();
-    match request_sheet::reply(sheet, &mut text) {
-        Reply::Text(count) => {
-            io::write_all(STDOUT_FILENO, &text[..count]);
-        }
-        Reply::NoRoom => {}
-    }
+    let reply = request_sheet::reply(sheet, &mut text);
+    io::write_all(STDOUT_FILENO, text_pieces::told(reply, &text));
 }
 
 fn main() {

@@ -1,7 +1,7 @@
 -- Law: document 02's promise over whole histories: "From a fresh state and a ledger of zeros, where every keep in the history went through the ledger, each
 -- kind's numbers are those of its accepted keeps, and the total used over all kinds equals usable less tail, both worked out from the history." It holds on
 -- any grid, after any accepted opening and any list of operations with any arguments, refused ones among them; and document 01's promise holds there too.
-use Prim.Native.Nat.{ℕ, _+_, _-_, _<_}
+use Prim.Native.Nat.{ℕ, _+_, _<_}
 use mathlib.Core.Bool.{Bool, true, false}
 use mathlib.Core.List.{List, [], _∷_, _++_, map, sum}
 use mathlib.Core.Logic.{_⊎_, inl, inr}
@@ -39,7 +39,7 @@ pub record SoundLedger (usable : ℕ) (x : Audited) (keeps : List Keep) : Type 0
   -- the total used over all kinds is the sum, over all accepted keeps, of size and gap
   pub total-is : totalUsed (x .ledger .kinds) ≡ used (keptSpans keeps)
   -- it equals usable less tail: the tail is where the newest keep starts
-  pub total-used : totalUsed (x .ledger .kinds) ≡ usable - tailBy usable (keptSpans keeps)
+  pub total-used : tailBy usable (keptSpans keeps) + totalUsed (x .ledger .kinds) ≡ usable
   pub tail-is : x .sections .tail ≡ tailBy usable (keptSpans keeps)
   pub usable-is : x .sections .usable ≡ usable
 
@@ -203,6 +203,7 @@ module _ (g start len : ℕ) (ops : List RecordedOperation) (a : openOf g start 
       runs g (opened g start len .usable) ops (openedAudit g start len) nothingHeld []
       record { books = opening-begins g start len a; same-kept = refl; tells = tells-nothing }
 
+  -- The law.
   pub sound-ledger : SoundLedger (opened g start len .usable) (audited g start len ops) (keepsOf g start len ops)
   sound-ledger =
       record {

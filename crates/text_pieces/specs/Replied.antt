@@ -2,15 +2,13 @@
 -- longest such text has, nothing changes. "Where an answer is an enum, a definition gives this paper's number".
 use Prim.Native.Nat.{ℕ, _<_, _≤_}
 use mathlib.Core.Bool.{true, false}
-use mathlib.Core.List.{List, _++_}
-use mathlib.Core.Logic.{_⊎_, inl, inr}
+use mathlib.Core.List.{List, [], _++_}
 use mathlib.Core.Path.{_≡_, refl, _∙_, ap, subst}
-use native.Mathlib.Omega.{arith}
 use borrow.Author.Tests.{lt-ltb, le-ltb}
 use lib.Dec.{ltb}
-use lib.ListN.{length, drop, length-append, length-drop}
+use lib.ListN.{length, take, drop}
+use lib.Seq.{take-at}
 use Rattle.answer.specs.Answer.{done, tableTooShort}
-use Rattle.bounded.specs.Boolean.{lt-or-le}
 use Rattle.text_pieces.specs.declared.Reply.{Reply}
 use Rattle.text_pieces.specs.declared.Reply.the-variants.{Text, NoRoom}
 
@@ -26,6 +24,11 @@ replyWith longest text room = elim (ltb room longest) [ true ↦ NoRoom | false 
 -- The lent bytes in the end.
 unfoldable pub leftWith : ℕ → List ℕ → List ℕ → List ℕ
 leftWith longest text lent = elim (ltb (length lent) longest) [ true ↦ lent | false ↦ text ++ drop (length text) lent ]
+
+-- What a reply tells in the lent bytes.
+abbrev pub toldIn : Reply → List ℕ → List ℕ
+toldIn (Text n) lent = take n lent
+toldIn NoRoom lent = []
 
 -- ---- as the code comes to them
 
@@ -50,16 +53,10 @@ module _ (longest : ℕ) (text lent : List ℕ) where
   unfolding replyWith leftWith
   reply-stands l s = let no = le-ltb (length lent) longest l in (ap Text (s .count-is) ∙ rw (no, replyWith), s .bytes-are ∙ rw (no, leftWith))
 
-  -- A text that was told lies in the lent bytes, since these are as long as they were.
-  pub text-within : (count : ℕ) → replyWith longest text (length lent) ≡ Text count → length (leftWith longest text lent) ≡ length lent → count ≤ length lent
-  text-within count e kept = go (lt-or-le (length lent) longest)
-    where
-      go : (length lent < longest) ⊎ (longest ≤ length lent) → count ≤ length lent
-      go (inl l) = let n = no-room l .0 in absurd (let z : _≡_ {A = ℕ} 0 1 = cc in omega arith)
-      go (inr l) =
-          let s = reply-stands l record { count-is = refl; bytes-are = refl } in
-          let c : count ≡ length text = let n = s .0 in cc in
-          omega (arith, simp (length-append, length-drop) at (ap length (s .1)))
+  -- What is told in the lent bytes is then the text.
+  pub told-is : longest ≤ length lent → toldIn (replyWith longest text (length lent)) (leftWith longest text lent) ≡ text
+  unfolding replyWith leftWith
+  told-is l = let no = le-ltb (length lent) longest l in rw (no, replyWith, leftWith) (take-at text (drop (length text) lent) (length text) refl)
 
 -- No room is number 3, and a text is done.
 pub numbers : (n : ℕ) → (numberOf NoRoom ≡ 3) × (numberOf (Text n) ≡ 0)

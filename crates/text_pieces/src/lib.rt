@@ -4,11 +4,27 @@ ghost use mathlib.Core.List.{_++_};
 ghost use mathlib.Core.Path.{_≡_};
 ghost use Rattle.decimal_text.specs.Decimal.{decimal};
 ghost use Rattle.text_pieces.specs.Put.{Put, Room, hasRoom, endWith, bytesWith};
+ghost use Rattle.text_pieces.specs.Replied.{toldIn};
 
 // What asking for a text comes to: so many bytes of text, or too few bytes were lent, which is number 3.
 pub enum Reply {
     Text(usize),
     NoRoom,
+}
+
+// The text that was told, in the bytes that were lent for it; none where there was no room.
+pub fn told(reply: Reply, text: &[u8]) -> &[u8]
+    ensures { λ r. ⌜ now r ≡ toldIn reply (now (text .entry)) ⌝ }
+{
+    match reply {
+        Reply::Text(count) => {
+            if text.len() < count {
+                return text;
+            }
+            &text[..count]
+        }
+        Reply::NoRoom => &text[..0],
+    }
 }
 
 // Whether so many bytes have room for a piece of a length at a place. No sum is made: the place may be any.

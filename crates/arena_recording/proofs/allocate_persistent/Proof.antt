@@ -1,7 +1,7 @@
 -- `arena_recording::allocate_persistent` meets its contract.
 use borrow.Author.Needs.{needs}
 use Rattle.recording_rule.specs.Cases.{hands-back, goes-down, recordable, hands-on}
-use Rattle.arena_recording.proofs.SixKinds.{six-kinds}
+use Rattle.ledger_entries.proofs.SixKinds.{six-kinds}
 use Rattle.arena_recording.proofs.allocate_persistent.Statement.{statement}
 use Rattle.arena_recording.proofs.allocate_persistent.Tie as tie
 

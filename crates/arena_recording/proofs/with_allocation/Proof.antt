@@ -1,18 +1,25 @@
 -- `arena_recording::with_allocation` meets its contract.
-use Prim.Native.Nat.{ℕ}
-use mathlib.Core.Path.{ap}
+use Prim.Native.Nat.{ℕ, _+_, _-_, _≤_}
+use mathlib.Core.Path.{_≡_, _∙_, ap}
 use native.Mathlib.Omega.{arith}
 use borrow.Author.Needs.{needs}
 use lib.ListN.{set}
+use Rattle.recording_rule.specs.Ledger.{ofKind, withKeep}
 use Rattle.recording_rule.specs.declared.Ledger.{Ledger}
 use Rattle.recording_rule.specs.declared.RecordedAllocation.{RecordedAllocation}
-use Rattle.arena_recording.proofs.Entries.{one-more}
 use Rattle.arena_recording.proofs.with_allocation.Statement.{statement}
 use Rattle.arena_recording.proofs.with_allocation.Tie as tie
 
 -- the ledger with another entry of a kind
 abbrev with-entry : Ledger → ℕ → RecordedAllocation → Ledger
 with-entry l kind r = record { kinds = set (l .kinds) kind r }
+
+-- one allocation more of a kind, which took so many bytes
+one-more : (l : Ledger) (kind : ℕ) (r : RecordedAllocation) → r ≡ ofKind l kind → (size taken : ℕ) → size ≤ taken
+    → _≡_ {A = RecordedAllocation} (record { requested = r .requested + size; used = r .used + taken; count = r .count + 1 }) (withKeep (ofKind l kind) size (taken - size))
+one-more l kind r e size taken h =
+    let bytes : r .used + taken ≡ r .used + (size + (taken - size)) = omega arith in
+    (λ i. record { requested = r .requested + size; used = bytes i; count = r .count + 1 }) ∙ ap (λ (x : RecordedAllocation). withKeep x size (taken - size)) e
 
 of-kind-requires : tie.Need-of-kind-requires
 of-kind-requires c κs = search needs

@@ -1,12 +1,12 @@
--- `arena_recording::empty_ledger` meets its contract.
+-- `ledger_entries::empty_ledger` meets its contract.
 use mathlib.Core.Path.{ap}
 use borrow.Author.Needs.{needs}
 use lib.ListN.{replicate}
 use Rattle.recording_rule.specs.Ledger.{kindCount}
 use Rattle.recording_rule.specs.declared.Ledger.{Ledger}
 use Rattle.recording_rule.specs.declared.RecordedAllocation.{RecordedAllocation}
-use Rattle.arena_recording.proofs.empty_ledger.Statement.{statement}
-use Rattle.arena_recording.proofs.empty_ledger.Tie as tie
+use Rattle.ledger_entries.proofs.empty_ledger.Statement.{statement}
+use Rattle.ledger_entries.proofs.empty_ledger.Tie as tie
 
 -- a ledger that has the same of every kind
 abbrev all-of : RecordedAllocation → Ledger

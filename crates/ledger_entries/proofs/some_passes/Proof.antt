@@ -1,4 +1,4 @@
--- `arena_recording::some_passes` meets its contract: of no kind so far it is so.
+-- `ledger_entries::some_passes` meets its contract: of no kind so far it is so.
 use Prim.Native.Nat.{_-_, _≤_}
 use mathlib.Core.Bool.{false}
 use mathlib.Core.Path.{_≡_, sym, _∙_}
@@ -6,9 +6,9 @@ use native.Mathlib.Omega.{arith}
 use Rattle.bounded.specs.Boolean.{neither-holds}
 use Rattle.bounded.specs.First.{holdsBelow, holds-none, holds-more, some-found}
 use Rattle.recording_rule.specs.Ledger.{kindCount, passesUsed}
-use Rattle.arena_recording.proofs.Entries.{passes, does-not-pass}
-use Rattle.arena_recording.proofs.some_passes.Statement.{statement}
-use Rattle.arena_recording.proofs.some_passes.Tie as tie
+use Rattle.ledger_entries.proofs.Entries.{passes, does-not-pass}
+use Rattle.ledger_entries.proofs.some_passes.Statement.{statement}
+use Rattle.ledger_entries.proofs.some_passes.Tie as tie
 
 abbrev Inv-loop : tie.InvT-loop
 Inv-loop ledger kind₀ kind = (holdsBelow (passesUsed ledger) kind ≡ false) × (kind ≤ kindCount)

@@ -1,13 +1,12 @@
--- What the code finds and puts in an entry of the ledger, over plain values.
-use Prim.Native.Nat.{ℕ, _+_, _-_, _<_, _≤_}
+-- What the code finds in an entry of the ledger, over plain values.
+use Prim.Native.Nat.{ℕ, _+_, _<_, _≤_}
 use mathlib.Core.Bool.{true, false}
 use mathlib.Core.List.{[], sum}
 use mathlib.Core.Path.{_≡_, refl, _∙_, ap}
-use native.Mathlib.Omega.{arith}
 use borrow.Author.Tests.{lt-ltb, le-ltb}
 use lib.ListN.{length, take}
 use Rattle.bounded.specs.Sums.{sum-more}
-use Rattle.recording_rule.specs.Ledger.{nothingRecorded, ofKind, usedBytes, totalUsed, passesUsed, withKeep}
+use Rattle.recording_rule.specs.Ledger.{nothingRecorded, ofKind, usedBytes, totalUsed, passesUsed}
 use Rattle.recording_rule.specs.declared.Ledger.{Ledger}
 use Rattle.recording_rule.specs.declared.RecordedAllocation.{RecordedAllocation}
 
@@ -24,13 +23,6 @@ module _ (l : Ledger) (kind : ℕ) (r : RecordedAllocation) (e : r ≡ ofKind l 
   pub added : kind < length (l .kinds) → totalUsed (take kind (l .kinds)) + r .used ≡ totalUsed (take (kind + 1) (l .kinds))
   unfolding totalUsed
   added h = ap (λ (x : RecordedAllocation). totalUsed (take kind (l .kinds)) + x .used) e ∙ sum-more usedBytes nothingRecorded (l .kinds) kind h
-
-  -- One allocation more, which took so many bytes.
-  pub one-more : (size taken : ℕ) → size ≤ taken
-      → _≡_ {A = RecordedAllocation} (record { requested = r .requested + size; used = r .used + taken; count = r .count + 1 }) (withKeep (ofKind l kind) size (taken - size))
-  one-more size taken h =
-      let bytes : r .used + taken ≡ r .used + (size + (taken - size)) = omega arith in
-      (λ i. record { requested = r .requested + size; used = bytes i; count = r .count + 1 }) ∙ ap (λ (x : RecordedAllocation). withKeep x size (taken - size)) e
 
 -- Nothing is added up yet.
 pub none-added : 0 ≡ totalUsed []

@@ -1,12 +1,12 @@
--- `arena_recording::is_balanced` meets its contract: the two tests are the definition's.
+-- `ledger_entries::is_balanced` meets its contract: the two tests are the definition's.
 use Prim.Native.Nat.{ℕ}
 use mathlib.Core.Bool.{Bool, not, _&&_}
 use mathlib.Core.Path.{ap₂}
 use borrow.Author.Needs.{needs}
 use lib.Dec.{eqb}
 use Rattle.recording_rule.specs.Ledger.{balanced}
-use Rattle.arena_recording.proofs.is_balanced.Statement.{statement}
-use Rattle.arena_recording.proofs.is_balanced.Tie as tie
+use Rattle.ledger_entries.proofs.is_balanced.Statement.{statement}
+use Rattle.ledger_entries.proofs.is_balanced.Tie as tie
 
 some-passes-requires : tie.Need-some-passes-requires
 some-passes-requires c κs = search needs

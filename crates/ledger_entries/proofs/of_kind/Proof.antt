@@ -1,12 +1,12 @@
--- `arena_recording::of_kind` meets its contract.
+-- `ledger_entries::of_kind` meets its contract.
 use mathlib.Core.Path.{sym, _∙_}
 use native.Mathlib.Omega.{arith}
 use borrow.Author.Needs.{needs}
 use lib.ListN.{List·getD-eq-default}
 use Rattle.recording_rule.specs.Ledger.{nothingRecorded}
-use Rattle.arena_recording.proofs.SixKinds.{six-kinds}
-use Rattle.arena_recording.proofs.of_kind.Statement.{statement}
-use Rattle.arena_recording.proofs.of_kind.Tie as tie
+use Rattle.ledger_entries.proofs.SixKinds.{six-kinds}
+use Rattle.ledger_entries.proofs.of_kind.Statement.{statement}
+use Rattle.ledger_entries.proofs.of_kind.Tie as tie
 
 nothing-recorded-requires : tie.Need-nothing-recorded-requires
 nothing-recorded-requires c κs = search needs

@@ -1,4 +1,4 @@
--- `arena_recording::total_used` meets its contract: the kinds so far are added up.
+-- `ledger_entries::total_used` meets its contract: the kinds so far are added up.
 use Prim.Native.Nat.{ℕ, _+_, _-_, _*_, _≤_}
 use mathlib.Core.Path.{_≡_, _∙_, ap}
 use native.Mathlib.Omega.{arith}
@@ -6,10 +6,10 @@ use borrow.Author.Needs.{needs}
 use lib.ListN.{length, take}
 use lib.Seq.{take-all}
 use Rattle.recording_rule.specs.Ledger.{kindCount, totalUsed}
-use Rattle.arena_recording.proofs.Entries.{none-added, added}
-use Rattle.arena_recording.proofs.SixKinds.{six-kinds}
-use Rattle.arena_recording.proofs.total_used.Statement.{statement}
-use Rattle.arena_recording.proofs.total_used.Tie as tie
+use Rattle.ledger_entries.proofs.Entries.{none-added, added}
+use Rattle.ledger_entries.proofs.SixKinds.{six-kinds}
+use Rattle.ledger_entries.proofs.total_used.Statement.{statement}
+use Rattle.ledger_entries.proofs.total_used.Tie as tie
 
 abbrev Inv-loop : tie.InvT-loop
 Inv-loop ledger total₀ kind₀ total kind = (total ≡ totalUsed (take kind (ledger .kinds))) × (total ≤ kind * 4294967295) × (kind ≤ kindCount)
