@@ -4,9 +4,13 @@ use ledger_text::GREATEST_LEDGER_TEXT;
 use libc::STDOUT_FILENO;
 use recording_rule::Ledger;
 
+fn no_text() -> [u8; GREATEST_LEDGER_TEXT] {
+    [0; GREATEST_LEDGER_TEXT]
+}
+
 // Writes the ledger's text.
 fn print(ledger: Ledger) {
-    let mut text = [0; GREATEST_LEDGER_TEXT];
+    let mut text = no_text();
     let reply = ledger_text::write_ledger(ledger, &mut text);
     io::write_all(STDOUT_FILENO, text_pieces::told(reply, &text));
 }

@@ -62,7 +62,7 @@ pub fn put_text(text: &mut [u8], at: usize, piece: &[u8]) -> usize
     put_whole(text, at, piece)
 }
 
-// Puts a number in decimal behind some bytes, as a blank: both, or neither.
+// Puts a number in decimal behind some bytes, such as a blank: both, or neither.
 pub fn put_number(text: &mut [u8], at: usize, before: &[u8], number: u64) -> usize
     ensures end { λ r. ⌜ r ≡ endWith (now (text .entry)) at (now (before .entry) ++ decimal number) ⌝ }
     ensures bytes { λ _. ⌜ now (text .exit) ≡ bytesWith (now (text .entry)) at (now (before .entry) ++ decimal number) ⌝ }
