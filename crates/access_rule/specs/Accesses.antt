@@ -12,9 +12,9 @@ use Rattle.request_table.specs.declared.Request.{Request}
 use Rattle.units.specs.declared.Moment.{Moment}
 use Rattle.access_rule.specs.declared.Access.{Access}
 
--- "At most 4,096 rows."
+-- "At most 4,096 rows.", which document 02, order 5, raises to 16,384.
 abbrev pub greatestAccesses : ℕ
-greatestAccesses = 4096
+greatestAccesses = 16384
 
 -- How many whole touches the script has. A touch is four words, as a request row is.
 abbrev pub count : List ℤ → ℕ

@@ -38,7 +38,8 @@ use Rattle.access_rule.specs.OneHolder.{Holds, one-holder}
 use Rattle.access_rule.specs.Run.{byteOf, arenaAfter, answerByte}
 use Rattle.access_rule.specs.Script.{touchesOf, scriptOf, finalArena, finalBytes}
 
--- What demand 3 takes: an accepted plan, an arena at least as long as its space, a script of whole rows of at most 4,096 touches, room for the answers.
+-- What demand 3 takes: an accepted plan, an arena at least as long as its space, a script of whole rows with no more touches than are allowed, room for
+-- the answers.
 pub record Lent (g : ℕ) (t : List ℤ) (space : ℕ) (o s : List ℤ) (arena bytes : List ℕ) : Type 0 where
   pub accepted : inspectOf g t space o .number ≡ 0
   pub long-enough : space ≤ length arena

@@ -14,7 +14,7 @@ use units::Row;
 // A touch is this many words: moment, request row, index, value.
 pub const ACCESS_WORDS: usize = 4;
 // At most this many touches.
-pub const GREATEST_ACCESSES: usize = 4096;
+pub const GREATEST_ACCESSES: usize = 16384;
 // The greatest value that a touch may write.
 const GREATEST_BYTE: u32 = 255;
 

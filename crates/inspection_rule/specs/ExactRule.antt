@@ -39,7 +39,7 @@ pub record Aligned (g : ℕ) (z : ℤ) : Type 0 where
 
 -- What the inspector accepts.
 pub record Acceptable (g : ℕ) (t : List ℤ) (space : ℕ) (o : List ℤ) : Type 0 where
-  -- whole rows, at most 256, every one good; a proposed offset for each; an allowed space
+  -- whole rows, no more than are allowed, every one good; a proposed offset for each; an allowed space
   pub table : WellFormed g t
   pub room : rows t ≤ length o
   pub allowed : space ≤ greatestSpace

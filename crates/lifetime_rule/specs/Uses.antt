@@ -14,13 +14,13 @@ use Rattle.lifetime_rule.specs.declared.Use.{Use}
 abbrev pub greatestOperators : ℕ
 greatestOperators = 1024
 
--- "n ≤ 256 tensors".
+-- "n ≤ 256 tensors", which document 02, order 5, raises to 1,024.
 abbrev pub greatestTensors : ℕ
-greatestTensors = 256
+greatestTensors = 1024
 
--- "at most 4,096 use rows".
+-- "at most 4,096 use rows", which it raises to 16,384.
 abbrev pub greatestUses : ℕ
-greatestUses = 4096
+greatestUses = 16384
 
 -- "role: 0 reads,
 abbrev pub reads : ℕ

@@ -32,7 +32,8 @@ unfoldable pub isNumber : ℤ → ℕ → Bool
 isNumber (pos m) n = eqb m n
 isNumber (negsuc m) n = false
 
--- "Reading: 18 if under 12 bytes; 19 if n isn't the tensor count asked for (unsigned); 18 if the length isn't 12 + 4n; 2 if over 256; 3."
+-- "Reading: 18 if under 12 bytes; 19 if n isn't the tensor count asked for (unsigned); 18 if the length isn't 12 + 4n; 2 if over 256; 3." Document
+-- 02, order 5: "Number 2 moves with them, also in the offline plan."
 abbrev pub readCauses : List ℕ → ℕ → ℕ → List (Cause Answer)
 readCauses bytes tensors room =
     (ltb (length bytes) (planBytes 0) ⇒ A.refused A.wrongLength)

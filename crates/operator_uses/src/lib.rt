@@ -6,11 +6,11 @@ use answer::Answer;
 use use_rows::USE_WORDS;
 
 // At most this many uses.
-pub const GREATEST_USES: usize = 4096;
+pub const GREATEST_USES: usize = 16384;
 // At most this many operators.
 pub const GREATEST_OPERATORS: u32 = 1024;
 // At most this many tensors.
-pub const GREATEST_TENSORS: usize = 256;
+pub const GREATEST_TENSORS: usize = 1024;
 // The entries of a life: its first moment and its last.
 pub const LIFETIME_WORDS: usize = 2;
 

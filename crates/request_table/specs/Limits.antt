@@ -5,9 +5,9 @@ use Prim.Native.Nat.{ℕ}
 abbrev pub grid : ℕ
 grid = 16
 
--- "At most 256 rows."
+-- "At most 256 rows.", which document 02, order 5, raises to 1,024.
 abbrev pub greatestRows : ℕ
-greatestRows = 256
+greatestRows = 1024
 
 -- The greatest size, fixed offset and space: 16,777,216.
 abbrev pub greatestSpace : ℕ

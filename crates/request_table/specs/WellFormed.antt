@@ -9,7 +9,7 @@ use Rattle.request_table.specs.GoodRows.{GoodRow, good-says, good-of}
 use Rattle.request_table.specs.Limits.{greatestRows, greatestSpace}
 use Rattle.request_table.specs.Table.{rows}
 
--- Whole rows, at most 256 of them, each of them good.
+-- Whole rows, no more than are allowed, each of them good.
 pub record WellFormed (g : ℕ) (t : List ℤ) : Type 0 where
   pub whole : length t % 4 ≡ 0
   pub few : rows t ≤ greatestRows

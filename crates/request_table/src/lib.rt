@@ -6,7 +6,7 @@ use units::Offset;
 // A row of the table is this many words: size, first moment, last moment, fixed offset.
 pub const ROW_WORDS: usize = 4;
 // At most this many rows.
-pub const GREATEST_ROWS: usize = 256;
+pub const GREATEST_ROWS: usize = 1024;
 // The greatest size, fixed offset and space.
 pub const GREATEST_SPACE: u32 = 16777216;
 

@@ -47,6 +47,7 @@ abbrev pub sheetBytes : ℕ → ℕ → ℕ
 sheetBytes number rows = 11 + rows * rowWords number * 4
 
 -- "`bad sheet` if mark, version or length (11 + 16 per row) is wrong or the input passes 4,107 bytes"; of version 2, "at most 13,323": none of these holds.
+-- Document 02, order 5: "A sheet is now at most 16,395 bytes in version 1 and 53,259 in version 2."
 unfoldable pub wellFormed : List ℕ → Bool
 wellFormed sheet =
     (marked sheet && not (eqb (rowWords (version sheet)) 0))

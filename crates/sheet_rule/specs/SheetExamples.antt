@@ -1,13 +1,14 @@
--- Document 01's Sheet A in a space of 1,024, byte by byte: what is read from it, and that it is bad once its version or its length is another. And a
--- sheet of version 2.
+-- Document 01's Sheet A in a space of 1,024, byte by byte: what is read from it, and that it is bad once its version or its length is another. How long
+-- the longest sheets are. And a sheet of version 2.
 use mathlib.Core.List.{List, [], _∷_, _++_}
 use mathlib.Core.Path.{_≡_, refl}
 use Prim.Native.Nat.{ℕ}
 use lib.IntN.{pos, negsuc}
 use lib.ListN.{replicate}
+use Rattle.request_table.specs.Limits.{greatestRows}
 use Rattle.word_bytes.specs.Bytes.{littleEndian, signedWord, wordOf}
 use Rattle.word_lists.specs.WordLists.{wordsFrom}
-use Rattle.sheet_rule.specs.Sheet.{marked, rowWords, sheetWords, wellFormed, sheetOf}
+use Rattle.sheet_rule.specs.Sheet.{marked, rowWords, sheetBytes, sheetWords, wellFormed, sheetOf}
 use Rattle.sheet_rule.specs.declared.Sheet.the-variants.{Requests, Shapes, Bad}
 
 -- The mark, a version and three rows.
@@ -31,6 +32,11 @@ rowsOfA =
     ++ unplaced
     ++ (40 ∷ 0 ∷ 0 ∷ 0 ∷ 2 ∷ 0 ∷ 0 ∷ 0 ∷ 3 ∷ 0 ∷ 0 ∷ 0 ∷ [])
     ++ unplaced
+
+-- "A sheet is now at most 16,395 bytes in version 1 and 53,259 in version 2" (document 02, order 5).
+pub longest-sheets : (sheetBytes 1 greatestRows ∷ sheetBytes 2 greatestRows ∷ []) ≡ (16395 ∷ 53259 ∷ [])
+unfolding rowWords
+longest-sheets = refl
 
 -- Sheet A, with that version.
 abbrev pub sheetA : ℕ → List ℕ
