@@ -1,3 +1,3 @@
 pub mod Starts
 pub mod Arrays
-pub mod Decided
+pub mod Judged

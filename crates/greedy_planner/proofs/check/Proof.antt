@@ -1,4 +1,4 @@
--- `greedy_planner::decide` meets its contract.
+-- `greedy_planner::check` meets its contract.
 use Prim.Native.Nat.{ℕ, _<_}
 use mathlib.Core.Bool.{true}
 use mathlib.Core.List.{List}
@@ -12,11 +12,11 @@ use Rattle.bounded.specs.Pair.{pairBelow, pairFirst, pairSecond, least-pair}
 use Rattle.request_table.specs.CheckLaws.{Checked, checked}
 use Rattle.request_table.specs.Limits.{greatestRows}
 use Rattle.request_table.specs.Table.{rows}
+use Rattle.greedy_rule.specs.Answers.{check-stands, pair-refused}
 use Rattle.greedy_rule.specs.Plan.{fixedCollide}
-use Rattle.greedy_rule.specs.Answers.{check-stands, pair-refused, need-decides}
 use Rattle.fixed_rows.proofs.FixedPairs.{pair-says, nothing-says}
-use Rattle.greedy_planner.proofs.decide.Statement.{statement}
-use Rattle.greedy_planner.proofs.decide.Tie as tie
+use Rattle.greedy_planner.proofs.check.Statement.{statement}
+use Rattle.greedy_planner.proofs.check.Tie as tie
 
 abbrev Grid : tie.After-a → ℕ
 Grid c = c .before .before .before .before .before .before .args .grid
@@ -43,14 +43,10 @@ small c =
 check-requires : tie.Need-check-requires
 check-requires c κs = search needs
 
-refused-requires : tie.Need-refused-requires
-refused-requires c κs = search needs
-
 returns : tie.Need-returns
 returns c =
-    let e = c .before .before .before .check .ensures in
-    let a = c .refused .ensures ∙ e in
-    record { answer = a ∙ check-stands _ _ _ _ (λ z. c .before .if1 .taken (ap numberOf e ∙ z)); plan = λ z. absurd (c .before .if1 .taken (sym (ap numberOf (c .refused .ensures)) ∙ z)) }
+    let e = c .before .before .check .ensures in
+    record { refusal = λ h. e ∙ check-stands _ _ _ _ (λ z. h (ap numberOf e ∙ z)); passed = λ z. absurd (c .if1 .taken z) }
 
 first-pair-requires : tie.Need-first-pair-requires
 first-pair-requires c κs = search needs
@@ -67,43 +63,45 @@ cast-refused-pair-2 c = omega (arith, small (c .before .before .before))
 refused-pair-requires : tie.Need-refused-pair-requires
 refused-pair-requires c κs = search needs
 
-refused-requires-2 : tie.Need-refused-requires-2
-refused-requires-2 c κs = search needs
-
 enum-told : tie.Need-enum-told
 enum-told c = search needs
 
-fit-requires : tie.Need-fit-requires
-fit-requires c κs = let k = checks (c .before .before .before) in ((k .shaped .few, c .before .before .before .before .before .before .pre), record { each = k .goodRows })
+done-requires : tie.Need-done-requires
+done-requires c κs = search needs
 
 returns-2 : tie.Need-returns-2
 returns-2 c =
-    let p = pair (c .before .before .before .before .before) in
-    let a = c .refused2 .ensures ∙ c .before .refused-pair .ensures in
+    let p = pair (c .before .before .before .before) in
+    let e = c .refused-pair .ensures in
     record {
-      answer = a ∙ ap₂ (refusedPair fixedRowsCollide) (p .1) (p .2) ∙ pair-refused _ _ _ _ (checks (c .before .before .before .before .before .before .before .before)) (p .0);
-      plan = λ z. absurd (let y = ap numberOf a in omega arith);
+      refusal = λ h. e ∙ ap₂ (refusedPair fixedRowsCollide) (p .1) (p .2) ∙ pair-refused _ _ _ _ (checks (c .before .before .before .before .before .before .before)) (p .0);
+      passed = λ z. absurd (let y = ap numberOf e in omega arith);
     }
 
 returns-3 : tie.Need-returns-3
 returns-3 c =
-    let k = checks (c .before .before .before .before) in
-    record { answer = c .fit .ensures .answer ∙ need-decides _ _ _ _ k (nothing-says _ _ (sym (c .before .enum-told .given .1) ∙ c .before .before .before .first-pair .ensures)); plan = c .fit .ensures .plan }
+    record {
+      refusal = λ h. absurd (h (ap numberOf (c .done .ensures)));
+      passed =
+          λ z.
+          record {
+            checks = checks (c .before .before .before .before);
+            apart = nothing-says _ _ (sym (c .before .enum-told .given .1) ∙ c .before .before .before .first-pair .ensures);
+          };
+    }
 
-pub decide-spec : {M : Type 1} → statement M
-decide-spec =
+pub check-spec : {M : Type 1} → statement M
+check-spec =
     tie.close
     (tie.spec
     check-requires
-    refused-requires
     returns
     first-pair-requires
     enum-known-a
     cast-refused-pair
     cast-refused-pair-2
     refused-pair-requires
-    refused-requires-2
     enum-told
-    fit-requires
+    done-requires
     returns-2
     returns-3)
