@@ -7,37 +7,10 @@ use crate::text;
 use arena_sections::Outcome;
 use arena_sections::Sections;
 
-// The tables are as long as the limits of `functions` say.
-const REQUEST_WORDS: usize = 1032;
-
-const OFFSETS: usize = 260;
-
-const ACCESS_WORDS: usize = 16392;
-
-const ARENA_BYTES: usize = 1024;
-
-const ANSWER_BYTES: usize = 4100;
-
-const USE_WORDS: usize = 12300;
-
-const LIFETIMES: usize = 520;
-
-const PLAN_BYTES: usize = 1100;
-
-const SHEET_BYTES: usize = 13400;
-
-const TEXT_BYTES: usize = 6000;
-
-const DIMENSIONS: usize = 12;
-
-const SHAPE_WORDS: usize = 3354;
-
-const LENT_REQUEST_WORDS: usize = 1040;
-
 // Requests; space; room for offsets.
 fn plan_requests(body: &[u8]) {
-    let mut table = [0i32; REQUEST_WORDS];
-    let mut lent = [9999i32; OFFSETS];
+    let mut table = read::words_of(0);
+    let mut lent = read::words_of(9999);
     let requests = read::table(body, 0, &mut table);
     let offsets = read::lent_words(body, 2, &mut lent);
     print::answer(greedy_planner::plan(requests, read::number(body, 1), offsets));
@@ -46,9 +19,9 @@ fn plan_requests(body: &[u8]) {
 
 // The script's own fields, over a plan that was read: accesses; arena length; room for byte answers.
 fn run_script(body: &[u8], requests: &[i32], space: u32, offsets: &[i32]) {
-    let mut accesses = [0i32; ACCESS_WORDS];
-    let mut arena = [85; ARENA_BYTES];
-    let mut bytes = [170; ANSWER_BYTES];
+    let mut accesses = read::words_of(0);
+    let mut arena = read::bytes_of(85);
+    let mut bytes = read::bytes_of(170);
     let script = read::table(body, 3, &mut accesses);
     let held = read::lent_bytes(body, 4, &mut arena);
     let room = read::lent_bytes(body, 5, &mut bytes);
@@ -58,8 +31,8 @@ fn run_script(body: &[u8], requests: &[i32], space: u32, offsets: &[i32]) {
 
 // Inspects a plan, or runs a script over it. Requests; space; offsets; and the script's fields.
 fn judge(function: usize, body: &[u8]) {
-    let mut requests = [0i32; REQUEST_WORDS];
-    let mut offsets = [0i32; OFFSETS];
+    let mut requests = read::words_of(0);
+    let mut offsets = read::words_of(0);
     let rows = read::table(body, 0, &mut requests);
     let space = read::number(body, 1);
     let proposal = read::table(body, 2, &mut offsets);
@@ -72,8 +45,8 @@ fn judge(function: usize, body: &[u8]) {
 
 // Operators; tensors; uses; room for lifetimes.
 fn from_uses(body: &[u8]) {
-    let mut table = [0i32; USE_WORDS];
-    let mut lent = [9999i32; LIFETIMES];
+    let mut table = read::words_of(0);
+    let mut lent = read::words_of(9999);
     let uses = read::table(body, 2, &mut table);
     let lifetimes = read::lent_words(body, 3, &mut lent);
     print::answer(tensor_lifetimes::from_uses(
@@ -87,8 +60,8 @@ fn from_uses(body: &[u8]) {
 
 // A plan's bytes; tensors; room for offsets.
 fn read_plan(body: &[u8]) {
-    let mut bytes = [0u8; PLAN_BYTES];
-    let mut lent = [9999i32; OFFSETS];
+    let mut bytes = read::bytes_of(0);
+    let mut lent = read::words_of(9999);
     let plan = read::bytes(body, 0, &mut bytes);
     let offsets = read::lent_words(body, 2, &mut lent);
     print::answer(offline_plan::read(plan, read::number(body, 1), offsets));
@@ -97,8 +70,8 @@ fn read_plan(body: &[u8]) {
 
 // Offsets; room for bytes.
 fn write_plan(body: &[u8]) {
-    let mut table = [0i32; OFFSETS];
-    let mut lent = [170; PLAN_BYTES];
+    let mut table = read::words_of(0);
+    let mut lent = read::bytes_of(170);
     let offsets = read::table(body, 0, &mut table);
     let bytes = read::lent_bytes(body, 1, &mut lent);
     print::answer(offline_plan::write(offsets, bytes));
@@ -107,8 +80,8 @@ fn write_plan(body: &[u8]) {
 
 // A sheet's bytes; room for text.
 fn reply_to(body: &[u8]) {
-    let mut bytes = [0u8; SHEET_BYTES];
-    let mut lent = [170; TEXT_BYTES];
+    let mut bytes = read::bytes_of(0);
+    let mut lent = read::bytes_of(170);
     let sheet = read::bytes(body, 0, &mut bytes);
     let text = read::lent_bytes(body, 1, &mut lent);
     print::reply(request_sheet::reply(sheet, text));
@@ -117,7 +90,7 @@ fn reply_to(body: &[u8]) {
 
 // Dimensions; type code.
 fn byte_size(body: &[u8]) {
-    let mut table = [0i32; DIMENSIONS];
+    let mut table = read::words_of(0);
     let dimensions = read::table(body, 0, &mut table);
     let type_code = read::word(text::part(body, 1, b';')).value;
     print::answer(tensor_sizes::byte_size(dimensions, type_code));
@@ -125,8 +98,8 @@ fn byte_size(body: &[u8]) {
 
 // Shapes; room for requests.
 fn from_shapes(body: &[u8]) {
-    let mut table = [0i32; SHAPE_WORDS];
-    let mut lent = [9999i32; LENT_REQUEST_WORDS];
+    let mut table = read::words_of(0);
+    let mut lent = read::words_of(9999);
     let shapes = read::table(body, 0, &mut table);
     let requests = read::lent_words(body, 1, &mut lent);
     print::answer(shaped_requests::from_shapes(shapes, requests));

@@ -34,33 +34,31 @@ pub const FROM_SHAPES: usize = 13;
 // How many there are; this stands for a line that is no vector.
 pub const NONE: usize = 14;
 
-// Whether a field keeps to its limit. Words are only counted here, so that their table needs no room for them.
-fn field_fits(field: &[u8], limit: &[u8]) -> bool {
-    if text::starts(limit, b'-') {
-        return read::word(field).good;
+// The greatest number of 32 bits.
+const GREATEST_NUMBER: usize = 4294967295;
+
+// Whether a field is of its kind. Words are only counted here, so that their table needs no room for them.
+fn field_fits(field: &[u8], kind: u8) -> bool {
+    let mut words = [0; 1];
+    match kind {
+        b'w' => read::put_all(field, &mut words) <= read::ROOM,
+        b'l' => read::single(field) <= read::ROOM,
+        b'n' => read::single(field) <= GREATEST_NUMBER,
+        b's' => read::word(field).good,
+        _ => (read::single(field) as u64) < decimal_text::NO_NUMBER,
     }
-    let most = decimal_text::natural(text::part(limit, 0, b'*')) as usize;
-    if text::last(limit, b'*') == 1 {
-        let mut words = [0; 1];
-        return read::put_all(field, &mut words) <= most;
-    }
-    read::single(field) <= most
 }
 
-// Whether there are as many fields as limits, and each keeps to its own.
-fn fits(body: &[u8], limits: &[u8]) -> bool {
-    let last = text::last(limits, b';');
+// Whether there are as many fields as kinds, and each is of its own.
+fn fits(body: &[u8], kinds: &[u8]) -> bool {
     let mut field = 0;
-    while field <= last {
-        if !field_fits(
-            text::part(body, field, b';'),
-            text::part(limits, field, b';'),
-        ) {
+    while field < kinds.len() {
+        if !field_fits(text::part(body, field, b';'), kinds[field]) {
             return false;
         }
         field += 1;
     }
-    text::last(body, b';') == last
+    text::last(body, b';') + 1 == kinds.len()
 }
 
 // Whether the line is a vector of the row's function.
@@ -85,25 +83,24 @@ fn row_of(line: &[u8], rows: &[u8]) -> usize {
     row
 }
 
-// The line's function, by its number in this list. After a name stand the limits of the fields: a number is the greatest that the field may spell; one
-// with a star is the most words that its table may have, a little more than are allowed, so that a vector can pass each limit; and a minus sign stands for
-// any signed number of 32 bits.
+// The line's function, by its number in this list. After a name stand the kinds of its fields: `w` words, `l` a length, `n` a number of 32 bits, `q` one of
+// 64, `s` a signed word. Tables are as long as any vector needs, so that a vector can pass each limit, and none of the limits stands here.
 pub(crate) fn of(line: &[u8]) -> usize {
     row_of(
         line,
-        b"plan:1032*;4294967295;260
-inspect:1032*;4294967295;260*
-run:1032*;4294967295;260*;16392*;1024;4100
-from_uses:4294967295;4294967295;12300*;520
-open:18446744073709551614;18446744073709551614
-allocate_persistent:4294967295;4294967295;4294967295;4294967295;4294967295;4294967295
-allocate_temp:4294967295;4294967295;4294967295;4294967295;4294967295;4294967295
-reset_temp:4294967295;4294967295;4294967295;4294967295;4294967295;4294967295
-set_head:4294967295;4294967295;4294967295;4294967295;4294967295;4294967295
-read:1100*;4294967295;260
-write:260*;1100
-reply:13400*;6000
-byte_size:12*;-
-from_shapes:3354*;1040",
+        b"plan:wnl
+inspect:wnw
+run:wnwwll
+from_uses:nnwl
+open:qq
+allocate_persistent:nnnnnn
+allocate_temp:nnnnnn
+reset_temp:nnnnnn
+set_head:nnnnnn
+read:wnl
+write:wl
+reply:wl
+byte_size:ws
+from_shapes:wl",
     )
 }

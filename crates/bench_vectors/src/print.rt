@@ -1,6 +1,5 @@
 // What a vector's line says, on standard output.
-ghost use Prim.Native.Nat.{_≤_};
-ghost use lib.ListN.{length};
+use crate::read;
 use answer::Answer;
 use arena_sections::Outcome;
 use libc::STDOUT_FILENO;
@@ -97,12 +96,13 @@ pub(crate) fn words(heading: &[u8], table: &[i32]) {
 }
 
 // A heading, and every entry of a table of bytes as `words` has it, so that the short form stands in one place.
-pub(crate) fn bytes(heading: &[u8], table: &[u8])
-    requires { ⌜ length (now table) ≤ 6000 ⌝ }
-{
-    let mut wide = [0i32; 6000];
+pub(crate) fn bytes(heading: &[u8], table: &[u8]) {
+    let mut wide = read::words_of(0);
     let mut at = 0;
     while at < table.len() {
+        if read::ROOM <= at {
+            break;
+        }
         wide[at] = table[at] as i32;
         at += 1;
     }
@@ -110,10 +110,7 @@ pub(crate) fn bytes(heading: &[u8], table: &[u8])
 }
 
 // What a script left in its byte answers and in its arena.
-pub(crate) fn left(answers: &[u8], arena: &[u8])
-    requires { ⌜ length (now answers) ≤ 6000 ⌝ }
-    requires { ⌜ length (now arena) ≤ 6000 ⌝ }
-{
+pub(crate) fn left(answers: &[u8], arena: &[u8]) {
     bytes(b"; bytes", answers);
     bytes(b"; arena", arena);
 }

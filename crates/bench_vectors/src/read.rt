@@ -1,20 +1,84 @@
-// Fields of numbers with spaces between. `12*7` stands for twelve sevens. What is read was found to be numbers that fit before: where it is none, the
-// readers give what they have, and no caller has a fact to show.
-ghost use Prim.Native.Nat.{_≤_};
-ghost use lib.ListN.{length};
+// Fields of numbers with spaces between. `12*7` stands for twelve sevens, and `12*16,i,i,-1` for twelve rows, in which `i` is the number of the row, from 0.
+// What is read was found to be numbers that fit before: where it is none, the readers give what they have, and no caller has a fact to show.
+ghost use Prim.Native.Nat.{_<_};
 use crate::text;
 use arena_sections::Sections;
 use decimal_text::Word;
 
-// How often an entry stands in its table, of so many stars and with a good number or none.
-fn times(entry: &[u8], stars: usize, good: bool) -> u64 {
-    if good & (stars == 0) {
+// The words or bytes of each table of the program: a little more than the longest script has, of 16,384 touches in four words each.
+pub const ROOM: usize = 66000;
+
+// A number of words that no table of the program has.
+const MANY: u64 = 1000000;
+
+// A table of one word again and again. Where an array is made its entries are looked at, so that it is made in one place.
+pub(crate) fn words_of(word: i32) -> [i32; ROOM] {
+    [word; ROOM]
+}
+
+pub(crate) fn bytes_of(byte: u8) -> [u8; ROOM] {
+    [byte; ROOM]
+}
+
+// How often the row of an entry stands in its table, by the stars in it.
+fn times(entry: &[u8], stars: usize) -> u64 {
+    if stars == 0 {
         return 1;
     }
-    if good & (stars == 1) {
+    if stars == 1 {
         return decimal_text::natural(text::part(entry, 0, b'*'));
     }
     decimal_text::NO_NUMBER
+}
+
+// The product, which is no number where one of the two is more than any table.
+fn product(a: u64, b: u64) -> u64 {
+    if MANY < a {
+        return decimal_text::NO_NUMBER;
+    }
+    if MANY < b {
+        return decimal_text::NO_NUMBER;
+    }
+    a * b
+}
+
+// The number of a row as a word, if it is one of a table.
+fn counted(row: usize) -> Word {
+    if MANY < row as u64 {
+        return Word {
+            good: false,
+            value: 0,
+        };
+    }
+    Word {
+        good: true,
+        value: row as i32,
+    }
+}
+
+// The number at a place of a row that stands again and again.
+fn in_rows(row: &[u8], width: usize, place: usize) -> Word
+    requires { ⌜ 0 < width ⌝ }
+{
+    let column = text::part(row, place % width, b',');
+    if check::same(column, b"i") {
+        return counted(place / width);
+    }
+    decimal_text::signed(column)
+}
+
+// Whether each of a row's numbers is one.
+fn is_row(row: &[u8], width: usize) -> bool
+    requires { ⌜ 0 < width ⌝ }
+{
+    let mut place = 0;
+    while place < width {
+        if !in_rows(row, width, place).good {
+            return false;
+        }
+        place += 1;
+    }
+    true
 }
 
 // The sum, which past the range is no number either.
@@ -25,13 +89,17 @@ fn sum(a: u64, b: u64) -> u64 {
     a + b
 }
 
-// Stores a number at each place from start to end that the table has.
-fn fill(table: &mut [i32], start: usize, end: usize, number: i32) {
+// Stores a row again and again at the places from start to end that the table has.
+fn fill(table: &mut [i32], start: usize, end: usize, row: &[u8], width: usize)
+    requires { ⌜ 0 < width ⌝ }
+{
     let mut at = start;
     while at < end {
         if table.len() <= at {
             return;
         }
+        let word = in_rows(row, width, at - start);
+        let number = word.value;
         table[at] = number;
         at += 1;
     }
@@ -43,9 +111,13 @@ fn put(entry: &[u8], count: usize, table: &mut [i32]) -> usize {
         return count;
     }
     let stars = text::last(entry, b'*');
-    let word = decimal_text::signed(text::part(entry, stars, b'*'));
-    let end = sum(count as u64, times(entry, stars, word.good)) as usize;
-    fill(table, count, end, word.value);
+    let row = text::part(entry, stars, b'*');
+    let width = text::last(row, b',') + 1;
+    if !is_row(row, width) {
+        return decimal_text::NO_NUMBER as usize;
+    }
+    let end = sum(count as u64, product(times(entry, stars), width as u64)) as usize;
+    fill(table, count, end, row, width);
     end
 }
 
@@ -73,7 +145,7 @@ pub(crate) fn table<'a>(body: &[u8], field: usize, table: &'a mut [i32]) -> &'a 
 
 // Reads a field of bytes into a table, and gives the bytes read. A number that is no byte stands for what is left of it by 256.
 pub(crate) fn bytes<'a>(body: &[u8], field: usize, bytes: &'a mut [u8]) -> &'a [u8] {
-    let mut room = [0i32; 13400];
+    let mut room = words_of(0);
     let words = table(body, field, &mut room);
     let mut count = 0;
     while (count < words.len()) & (count < bytes.len()) {
@@ -120,9 +192,7 @@ pub(crate) fn number(body: &[u8], field: usize) -> u32 {
 }
 
 // Reads a field that is a length, and lends so many bytes of a table.
-pub(crate) fn lent_bytes<'a>(body: &[u8], field: usize, table: &'a mut [u8]) -> &'a mut [u8]
-    ensures { λ r. ⌜ length (now r) ≤ length (now (table .entry)) ⌝ }
-{
+pub(crate) fn lent_bytes<'a>(body: &[u8], field: usize, table: &'a mut [u8]) -> &'a mut [u8] {
     let length = long(body, field);
     if table.len() < length {
         return table;

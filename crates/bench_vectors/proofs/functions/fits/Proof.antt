@@ -1,26 +1,25 @@
 -- `bench_vectors::functions::fits` is safe and ends.
-use Prim.Native.Nat.{_+_, _-_}
+use Prim.Native.Nat.{_-_, _≤_}
 use native.Mathlib.Omega.{arith}
+use borrow.Author.Needs.{needs}
+use lib.ListN.{length}
 use Rattle.bench_vectors.proofs.functions.fits.Statement.{statement}
 use Rattle.bench_vectors.proofs.functions.fits.Tie as tie
 
 abbrev Inv-loop : tie.InvT-loop
-Inv-loop body limits last field₀ field = Unit {0}
+Inv-loop body kinds field₀ field = field ≤ length kinds
 
 abbrev μ-loop : tie.MeasureT-loop
-μ-loop body limits last field₀ field = last + 1 - field
-
-last-requires : tie.Need-last-requires Inv-loop μ-loop
-last-requires c κs = tt
+μ-loop body kinds field₀ field = length kinds - field
 
 loop-holds : tie.Need-loop-holds Inv-loop μ-loop
-loop-holds c = tt
+loop-holds c = omega arith
 
 part-requires : tie.Need-part-requires Inv-loop μ-loop
 part-requires c κs = tt
 
-part-requires-2 : tie.Need-part-requires-2 Inv-loop μ-loop
-part-requires-2 c κs = tt
+shared-slice-read-field-fits : tie.Need-shared-slice-read-field-fits Inv-loop μ-loop
+shared-slice-read-field-fits c = omega arith
 
 field-fits-requires : tie.Need-field-fits-requires Inv-loop μ-loop
 field-fits-requires c κs = tt
@@ -35,10 +34,13 @@ loop-less : tie.Need-loop-less Inv-loop μ-loop
 loop-less c = omega arith
 
 loop-again : tie.Need-loop-again Inv-loop μ-loop
-loop-again c = tt
+loop-again c = omega arith
 
-last-requires-2 : tie.Need-last-requires-2 Inv-loop μ-loop
-last-requires-2 c κs = tt
+last-requires : tie.Need-last-requires Inv-loop μ-loop
+last-requires c κs = tt
+
+add-result : tie.Need-add-result Inv-loop μ-loop
+add-result c = search needs
 
 returns-2 : tie.Need-returns-2 Inv-loop μ-loop
 returns-2 c = tt
@@ -49,14 +51,14 @@ fits-spec =
     (tie.spec
     Inv-loop
     μ-loop
-    last-requires
     loop-holds
     part-requires
-    part-requires-2
+    shared-slice-read-field-fits
     field-fits-requires
     returns
     add-field
     loop-less
     loop-again
-    last-requires-2
+    last-requires
+    add-result
     returns-2)

@@ -9,10 +9,13 @@ use Rattle.bench_vectors.proofs.print.bytes.Statement.{statement}
 use Rattle.bench_vectors.proofs.print.bytes.Tie as tie
 
 abbrev Inv-loop : tie.InvT-loop
-Inv-loop heading table wide₀ at₀ wide at = (at ≤ length table) × (length wide ≡ 6000)
+Inv-loop heading table wide₀ at₀ wide at = (at ≤ 66000) × (length wide ≡ 66000)
 
 abbrev μ-loop : tie.MeasureT-loop
 μ-loop heading table wide₀ at₀ wide at = length table - at
+
+words-of-requires : tie.Need-words-of-requires Inv-loop μ-loop
+words-of-requires c κs = tt
 
 loop-holds : tie.Need-loop-holds Inv-loop μ-loop
 loop-holds c = omega arith
@@ -21,7 +24,7 @@ shared-slice-read-wide : tie.Need-shared-slice-read-wide Inv-loop μ-loop
 shared-slice-read-wide c = omega arith
 
 cast-wide : tie.Need-cast-wide Inv-loop μ-loop
-cast-wide c = sfits-of (omega (arith, c .shared-slice-known3 .given (c .before .before .loop .at)))
+cast-wide c = sfits-of (omega (arith, c .shared-slice-known3 .given (c .before .before .before .loop .at)))
 
 mul-wide : tie.Need-mul-wide Inv-loop μ-loop
 mul-wide c = omega arith
@@ -56,6 +59,7 @@ bytes-spec =
     (tie.spec
     Inv-loop
     μ-loop
+    words-of-requires
     loop-holds
     shared-slice-read-wide
     cast-wide

@@ -21,6 +21,9 @@ abbrev μ-loop : tie.MeasureT-loop
 left : (c : tie.In-loop Inv-loop μ-loop) → c .before .loop .count < length (c .before .loop .bytes)
 left c = ltb-true _ _ (both (ltb (c .before .loop .count) (length (c .before .before .table .result .now))) (ltb (c .before .loop .count) (length (c .before .loop .bytes))) (c .loop-test .taken) .1)
 
+words-of-requires : tie.Need-words-of-requires Inv-loop μ-loop
+words-of-requires c κs = tt
+
 slice-aggregate-table : tie.Need-slice-aggregate-table Inv-loop μ-loop
 slice-aggregate-table c = search needs
 
@@ -60,6 +63,7 @@ bytes-spec =
     (tie.spec
     Inv-loop
     μ-loop
+    words-of-requires
     slice-aggregate-table
     table-requires
     loop-holds

@@ -1,5 +1,5 @@
 -- `bench_vectors::read::fill` is safe and ends: the table keeps its length.
-use Prim.Native.Nat.{_-_}
+use Prim.Native.Nat.{_-_, _≤_}
 use mathlib.Core.Path.{_≡_}
 use native.Mathlib.Omega.{arith}
 use borrow.Author.Needs.{needs}
@@ -8,10 +8,10 @@ use Rattle.bench_vectors.proofs.read.fill.Statement.{statement}
 use Rattle.bench_vectors.proofs.read.fill.Tie as tie
 
 abbrev Inv-loop : tie.InvT-loop
-Inv-loop table₀ start end number at₀ table at = length table ≡ length table₀
+Inv-loop table₀ start end row width at₀ table at = (length table ≡ length table₀) × (start ≤ at)
 
 abbrev μ-loop : tie.MeasureT-loop
-μ-loop table₀ start end number at₀ table at = end - at
+μ-loop table₀ start end row width at₀ table at = end - at
 
 loop-holds : tie.Need-loop-holds Inv-loop μ-loop
 loop-holds c = omega arith
@@ -21,6 +21,12 @@ same-length c = omega arith
 
 returns : tie.Need-returns Inv-loop μ-loop
 returns c = tt
+
+sub-in-rows : tie.Need-sub-in-rows Inv-loop μ-loop
+sub-in-rows c = omega arith
+
+in-rows-requires : tie.Need-in-rows-requires Inv-loop μ-loop
+in-rows-requires c κs = c .before .before .before .before .pre
 
 mul-number : tie.Need-mul-number Inv-loop μ-loop
 mul-number c = omega arith
@@ -52,6 +58,8 @@ fill-spec =
     loop-holds
     same-length
     returns
+    sub-in-rows
+    in-rows-requires
     mul-number
     slice-set-from-number
     add-at
