@@ -10,13 +10,13 @@ use Rattle.bounded.specs.Boolean.{neither, neither-holds}
 use Rattle.bounded.specs.Causes.{NoneHolds, AllRefuse, Gives, given, next, none_left, firstCause, follows, follows-more, passed, refused-stands}
 use Rattle.bounded.specs.First.{firstIn, holdsBelow, none-holds}
 use Rattle.bounded.specs.Replaced.{replaced}
-use Rattle.request_table.specs.Checks.{tableLengthCauses}
+use Rattle.request_table.specs.Checks.{shapeCauses}
 use Rattle.request_table.specs.Limits.{greatestRows}
 use Rattle.request_table.specs.Table.{rows, wholeRows}
 use Rattle.inspection_rule.specs.Inspect.{acceptedAnswer, inspectOf}
 use Rattle.access_rule.specs.Accesses.{greatestAccesses, count, good, badAccess}
 use Rattle.access_rule.specs.Run.{arenaAfter, answerByte}
-use Rattle.access_rule.specs.Script.{scriptLengthCauses, inspectorCauses, lastCauses, scriptCauses, scriptLengthsOf, touchesOf, scriptOf, finalArena, finalBytes}
+use Rattle.access_rule.specs.Script.{lengthCauses, inspectorCauses, lastCauses, scriptCauses, lengthsOf, touchesOf, scriptOf, finalArena, finalBytes}
 
 -- What lets the tables pass the checks 1 to 3.
 pub record Sized (t o s : List ℤ) (room : ℕ) : Type 0 where
@@ -60,10 +60,10 @@ module _ (t : List ℤ) (space : ℕ) (s : List ℤ) (held : ℕ) where
 -- ---- the checks 1 to 3
 
 module _ (t o s : List ℤ) (room : ℕ) where
-  length-refuses : AllRefuse number_of (scriptLengthCauses t o s room)
+  length-refuses : AllRefuse number_of (lengthCauses t o s room)
   length-refuses = (omega arith, (omega arith, (omega arith, tt)))
 
-  sized_of : NoneHolds (scriptLengthCauses t o s room) → Sized t o s room
+  sized_of : NoneHolds (lengthCauses t o s room) → Sized t o s room
   sized_of n =
       let one = neither (not (wholeRows t)) (not (wholeRows s)) n.0 in
       let two = neither (ltb greatestRows (rows t)) (ltb greatestAccesses (count s)) n.1.0 in
@@ -77,7 +77,7 @@ module _ (t o s : List ℤ) (room : ℕ) where
         roomy = ltb-false _ _ three.1;
       }
 
-  none_of : Sized t o s room → NoneHolds (scriptLengthCauses t o s room)
+  none_of : Sized t o s room → NoneHolds (lengthCauses t o s room)
   none_of z =
       let one = neither-holds (not (wholeRows t)) (not (wholeRows s)) (ap not (eq-eqb _ _ z.whole)) (ap not (eq-eqb _ _ z.whole-script)) in
       let two = neither-holds (ltb greatestRows (rows t)) (ltb greatestAccesses (count s)) (le-ltb _ _ z.few) (le-ltb _ _ z.few-accesses) in
@@ -85,13 +85,13 @@ module _ (t o s : List ℤ) (room : ℕ) where
       (one, (two, (three, tt)))
 
   -- the inspector's own checks 1 to 3 pass then
-  shape-none : Sized t o s room → NoneHolds (tableLengthCauses t (length o))
+  shape-none : Sized t o s room → NoneHolds (shapeCauses t (length o))
   shape-none z = (ap not (eq-eqb _ _ z.whole), (le-ltb _ _ z.few, (le-ltb _ _ z.proposed-all, tt)))
 
   -- The checks 1 to 3 pass: the lengths are as they must be.
-  pub lengths-passed : (scriptLengthsOf t o s room).number ≡ 0 → Sized t o s room
-  unfolding scriptLengthsOf
-  lengths-passed e = sized_of (passed number_of (scriptLengthCauses t o s room) (doneWith 0) length-refuses e).0
+  pub lengths-passed : (lengthsOf t o s room).number ≡ 0 → Sized t o s room
+  unfolding lengthsOf
+  lengths-passed e = sized_of (passed number_of (lengthCauses t o s room) (doneWith 0) length-refuses e).0
 
   -- ---- the order of the three
 
@@ -101,16 +101,16 @@ module _ (t o s : List ℤ) (room : ℕ) where
 
     inspected : Sized t o s room → inspectOf g t space o ≡ firstCause (inspectorCauses g t space o) (acceptedAnswer g t o)
     unfolding inspectOf
-    inspected z = follows-more (tableLengthCauses t (length o)) (inspectorCauses g t space o) (acceptedAnswer g t o) (shape-none z)
+    inspected z = follows-more (shapeCauses t (length o)) (inspectorCauses g t space o) (acceptedAnswer g t o) (shape-none z)
 
     past-lengths : Sized t o s room → firstCause (inspectorCauses g t space o ++ lastCauses t space s held) (doneWith 0) ≡ scriptOf g t space o s held room
     unfolding scriptOf
-    past-lengths z = sym (follows-more (scriptLengthCauses t o s room) (inspectorCauses g t space o ++ lastCauses t space s held) (doneWith 0) (none_of z))
+    past-lengths z = sym (follows-more (lengthCauses t o s room) (inspectorCauses g t space o ++ lastCauses t space s held) (doneWith 0) (none_of z))
 
     -- A refusal of the checks 1 to 3 is the script's;
-    pub lengths-stand : ((scriptLengthsOf t o s room).number ≡ 0 → ⊥) → scriptLengthsOf t o s room ≡ scriptOf g t space o s held room
-    unfolding scriptLengthsOf scriptOf
-    lengths-stand h = refused-stands number_of (scriptLengthCauses t o s room) (inspectorCauses g t space o ++ lastCauses t space s held) (doneWith 0) (doneWith 0) refl h
+    pub lengths-stand : ((lengthsOf t o s room).number ≡ 0 → ⊥) → lengthsOf t o s room ≡ scriptOf g t space o s held room
+    unfolding lengthsOf scriptOf
+    lengths-stand h = refused-stands number_of (lengthCauses t o s room) (inspectorCauses g t space o ++ lastCauses t space s held) (doneWith 0) (doneWith 0) refl h
 
     -- past them, a refusal of the inspector is;
     pub inspection-stands : Sized t o s room → ((inspectOf g t space o).number ≡ 0 → ⊥) → inspectOf g t space o ≡ scriptOf g t space o s held room

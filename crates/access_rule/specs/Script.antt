@@ -7,25 +7,24 @@ use Rattle.answer.specs.Answer as A
 use Rattle.bounded.specs.Causes.{Cause, ◌⇒◌, firstCause}
 use Rattle.bounded.specs.First.{firstIn, holdsBelow}
 use Rattle.bounded.specs.Replaced.{replaced}
-use Rattle.length_checks.specs.LengthChecks.{lengthCauses}
 use Rattle.request_table.specs.Checks.{contentCauses}
 use Rattle.request_table.specs.Limits.{greatestRows}
 use Rattle.request_table.specs.Table.{rows, wholeRows}
-use Rattle.inspection_rule.specs.Inspect.{proposalCauses}
+use Rattle.inspection_rule.specs.Inspect.{ownCauses}
 use Rattle.access_rule.specs.Accesses.{greatestAccesses, count, badAccess}
 use Rattle.access_rule.specs.Run.{arenaAfter, answerByte}
 
 -- 1, 2 and 3, each for either of two tables.
-abbrev pub scriptLengthCauses : List ℤ → List ℤ → List ℤ → ℕ → List (Cause Answer)
-scriptLengthCauses t o s room =
-    lengthCauses
-    (not (wholeRows t) || not (wholeRows s))
-    (ltb greatestRows (rows t) || ltb greatestAccesses (count s))
-    (ltb (length o) (rows t) || ltb room (count s))
+abbrev pub lengthCauses : List ℤ → List ℤ → List ℤ → ℕ → List (Cause Answer)
+lengthCauses t o s room =
+    (not (wholeRows t) || not (wholeRows s) ⇒ A.refused A.notWholeRows)
+    ∷ (ltb greatestRows (rows t) || ltb greatestAccesses (count s) ⇒ A.refused A.tooMany)
+    ∷ (ltb (length o) (rows t) || ltb room (count s) ⇒ A.refused A.tableTooShort)
+    ∷ []
 
 -- What the inspector gives past its checks 1 to 3: 4, 5, 8, 9, 7, 10.
 abbrev pub inspectorCauses : ℕ → List ℤ → ℕ → List ℤ → List (Cause Answer)
-inspectorCauses g t space o = contentCauses g t space ++ proposalCauses g t space o
+inspectorCauses g t space o = contentCauses g t space ++ ownCauses g t space o
 
 -- 12: the lent arena is shorter than the space.
 abbrev pub arenaCauses : ℕ → ℕ → List (Cause Answer)
@@ -41,11 +40,11 @@ lastCauses t space s held = arenaCauses space held ++ accessCauses t s
 
 -- 1, 2, 3; 4, 5, 8, 9, 7, 10; 12; 11.
 abbrev pub scriptCauses : ℕ → List ℤ → ℕ → List ℤ → List ℤ → ℕ → ℕ → List (Cause Answer)
-scriptCauses g t space o s held room = scriptLengthCauses t o s room ++ (inspectorCauses g t space o ++ lastCauses t space s held)
+scriptCauses g t space o s held room = lengthCauses t o s room ++ (inspectorCauses g t space o ++ lastCauses t space s held)
 
 -- The answer of the checks 1 to 3 alone.
-unfoldable pub scriptLengthsOf : List ℤ → List ℤ → List ℤ → ℕ → Answer
-scriptLengthsOf t o s room = firstCause (scriptLengthCauses t o s room) (A.doneWith 0)
+unfoldable pub lengthsOf : List ℤ → List ℤ → List ℤ → ℕ → Answer
+lengthsOf t o s room = firstCause (lengthCauses t o s room) (A.doneWith 0)
 
 -- The answer of the checks 12 and 11 alone.
 unfoldable pub touchesOf : List ℤ → ℕ → List ℤ → ℕ → Answer

@@ -3,7 +3,7 @@
 ghost use Rattle.std.specs.Prelude.{◌&&◌, ◌≡◌, leb};
 ghost use Rattle.bounded.specs.First.{firstIn};
 ghost use Rattle.access_rule.specs.Accesses.{count as count_of, access, reaches, badAccess};
-ghost use Rattle.access_rule.specs.Script.{scriptLengthsOf};
+ghost use Rattle.access_rule.specs.Script.{lengthsOf};
 
 use access_rule::Access;
 use answer::Answer;
@@ -79,7 +79,7 @@ pub fn lowest_bad(table: &[i32], accesses: &[i32]) -> usize
 
 // The checks 1 to 3, each for either of two tables.
 pub fn check_lengths(requests: &[i32], offsets: &[i32], accesses: &[i32], room: usize) -> Answer
-    ensures { result ≡ scriptLengthsOf requests.now offsets.now accesses.now room }
+    ensures { result ≡ lengthsOf requests.now offsets.now accesses.now room }
 {
     let rows = requests.len() / request_table::ROW_WORDS;
     let count = accesses.len() / ACCESS_WORDS;

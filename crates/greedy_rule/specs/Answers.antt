@@ -15,7 +15,7 @@ use Rattle.request_table.specs.Checks.{tableCauses, checkOf}
 use Rattle.request_table.specs.Colliding.{Colliding, collides-says, collides-of}
 use Rattle.request_table.specs.Table.{rows, fixed, fixedOffset}
 use Rattle.greedy_rule.specs.NoCollision.{FixedRowsApart}
-use Rattle.greedy_rule.specs.Plan.{fixedCollide, greedyNeed, greedyCauses, planCauses, doneAnswer, fitOf, plan_of}
+use Rattle.greedy_rule.specs.Plan.{fixedCollide, greedyNeed, ownCauses, planCauses, doneAnswer, fitOf, plan_of}
 
 -- ---- two fixed rows collide
 
@@ -69,7 +69,7 @@ module _ (g : ℕ) (t : List ℤ) where
       -- A refusal of the checks 1 to 5 is the planner's.
       pub check-stands : ((checkOf g t space room).number ≡ 0 → ⊥) → checkOf g t space room ≡ plan_of g t space room
       unfolding checkOf plan_of
-      check-stands h = refused-stands number_of (tableCauses g t space room) (greedyCauses g t space) (doneWith 0) (doneAnswer g t) refl h
+      check-stands h = refused-stands number_of (tableCauses g t space room) (ownCauses g t space) (doneWith 0) (doneAnswer g t) refl h
 
       -- Past them, two fixed rows that collide are the refusal,
       pub pair-refused : Checked g t space room → pairBelow (fixedCollide g t) (rows t) ≡ true
@@ -77,14 +77,14 @@ module _ (g : ℕ) (t : List ℤ) where
       unfolding plan_of
       pair-refused c e =
           let clash = refusedPair fixedRowsCollide (pairFirst (fixedCollide g t) (rows t)) (pairSecond (fixedCollide g t) (rows t)) in
-          let told : Gives (greedyCauses g t space) (doneAnswer g t) clash = given e in
-          told.is ∙ sym (follows-more (tableCauses g t space room) (greedyCauses g t space) (doneAnswer g t) (none-refuses t room g space c))
+          let told : Gives (ownCauses g t space) (doneAnswer g t) clash = given e in
+          told.is ∙ sym (follows-more (tableCauses g t space room) (ownCauses g t space) (doneAnswer g t) (none-refuses t room g space c))
 
       -- and where there are none, the need decides.
       pub need-decides : Checked g t space room → pairBelow (fixedCollide g t) (rows t) ≡ false → fitOf g t space ≡ plan_of g t space room
       unfolding plan_of fitOf
       need-decides c e =
-          sym (follows-more (tableCauses g t space room) (greedyCauses g t space) (doneAnswer g t) (none-refuses t room g space c) ∙ rw (e, firstCause))
+          sym (follows-more (tableCauses g t space room) (ownCauses g t space) (doneAnswer g t) (none-refuses t room g space c) ∙ rw (e, firstCause))
 
       -- What the answer may be.
       pub data Outcome : Type 0 where

@@ -27,16 +27,16 @@ fixedCauses g t =
     ∷ []
 
 -- 7: the need exceeds the space.
-abbrev pub greedyNeedCauses : ℕ → List ℤ → ℕ → List (Cause Answer)
-greedyNeedCauses g t space = (ltb space (greedyNeed g t) ⇒ A.refusedNeed A.needExceedsSpace (greedyNeed g t)) ∷ []
+abbrev pub needCauses : ℕ → List ℤ → ℕ → List (Cause Answer)
+needCauses g t space = (ltb space (greedyNeed g t) ⇒ A.refusedNeed A.needExceedsSpace (greedyNeed g t)) ∷ []
 
 -- 6, then 7.
-abbrev pub greedyCauses : ℕ → List ℤ → ℕ → List (Cause Answer)
-greedyCauses g t space = fixedCauses g t ++ greedyNeedCauses g t space
+abbrev pub ownCauses : ℕ → List ℤ → ℕ → List (Cause Answer)
+ownCauses g t space = fixedCauses g t ++ needCauses g t space
 
 -- 1 to 7.
 abbrev pub planCauses : ℕ → List ℤ → ℕ → ℕ → List (Cause Answer)
-planCauses g t space room = tableCauses g t space room ++ greedyCauses g t space
+planCauses g t space room = tableCauses g t space room ++ ownCauses g t space
 
 -- Where no cause holds: done, with the need.
 abbrev pub doneAnswer : ℕ → List ℤ → Answer
@@ -44,7 +44,7 @@ doneAnswer g t = A.doneWith (greedyNeed g t)
 
 -- The answer past the checks 1 to 6.
 unfoldable pub fitOf : ℕ → List ℤ → ℕ → Answer
-fitOf g t space = firstCause (greedyNeedCauses g t space) (doneAnswer g t)
+fitOf g t space = firstCause (needCauses g t space) (doneAnswer g t)
 
 -- The planner's answer: the first of 1 to 7 that holds, else done with the need.
 unfoldable pub plan_of : ℕ → List ℤ → ℕ → ℕ → Answer

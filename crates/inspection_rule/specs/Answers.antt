@@ -10,11 +10,11 @@ use Rattle.bounded.specs.Pair.{pairBelow, pairFirst, pairSecond}
 use Rattle.request_table.specs.CheckLaws.{Checked, none-refuses}
 use Rattle.request_table.specs.Checks.{tableCauses, checkOf}
 use Rattle.request_table.specs.Table.{rows}
-use Rattle.inspection_rule.specs.Inspect.{moved, offGrid, proposedNeed, proposedCollide, movedCauses, gridCauses, proposedNeedCauses, pairCauses, offsetCauses, placedCauses, proposalCauses, acceptedAnswer, pair_of, proposalOf, inspectOf}
+use Rattle.inspection_rule.specs.Inspect.{moved, offGrid, proposedNeed, proposedCollide, movedCauses, gridCauses, needCauses, pairCauses, offsetCauses, planCauses, ownCauses, acceptedAnswer, pair_of, proposalOf, inspectOf}
 
 -- The answer of the checks 7 and 10 alone: a step between the laws, which no contract cites.
 unfoldable pub placed_of : ℕ → List ℤ → ℕ → List ℤ → Answer
-placed_of g t space o = firstCause (placedCauses g t space o) (acceptedAnswer g t o)
+placed_of g t space o = firstCause (planCauses g t space o) (acceptedAnswer g t o)
 
 module _ (g : ℕ) (t : List ℤ) (space : ℕ) (o : List ℤ) where
   none-moved : rows t ≤ firstIn (moved t o) 0 (rows t) → NoneHolds (movedCauses t o)
@@ -30,26 +30,26 @@ module _ (g : ℕ) (t : List ℤ) (space : ℕ) (o : List ℤ) where
   -- A refusal of the checks 1 to 5 is the inspector's.
   pub check-stands : ((checkOf g t space (length o)).number ≡ 0 → ⊥) → checkOf g t space (length o) ≡ inspectOf g t space o
   unfolding checkOf inspectOf
-  check-stands h = refused-stands number_of (tableCauses g t space (length o)) (proposalCauses g t space o) (doneWith 0) (acceptedAnswer g t o) refl h
+  check-stands h = refused-stands number_of (tableCauses g t space (length o)) (ownCauses g t space o) (doneWith 0) (acceptedAnswer g t o) refl h
 
   -- Past them, a fixed row that was moved is told whatever else holds,
   pub moved-refused : firstIn (moved t o) 0 (rows t) < rows t → refusedAt fixedRowMoved (firstIn (moved t o) 0 (rows t)) ≡ proposalOf g t space o
   unfolding proposalOf holdsBelow
   moved-refused l =
-      let told : Gives (proposalCauses g t space o) (acceptedAnswer g t o) (refusedAt fixedRowMoved (firstIn (moved t o) 0 (rows t))) = given (lt-ltb _ _ l) in
+      let told : Gives (ownCauses g t space o) (acceptedAnswer g t o) (refusedAt fixedRowMoved (firstIn (moved t o) 0 (rows t))) = given (lt-ltb _ _ l) in
       told.is
 
   -- then an offset off the grid, whatever the need,
   pub grid-refused : rows t ≤ firstIn (moved t o) 0 (rows t) → firstIn (offGrid g o) 0 (rows t) < rows t
       → refusedAt badOffset (firstIn (offGrid g o) 0 (rows t)) ≡ proposalOf g t space o
   unfolding proposalOf holdsBelow
-  grid-refused m l = sym (follows-more (movedCauses t o) (gridCauses g t o ++ placedCauses g t space o) (acceptedAnswer g t o) (none-moved m) ∙ rw (lt-ltb _ _ l, firstCause))
+  grid-refused m l = sym (follows-more (movedCauses t o) (gridCauses g t o ++ planCauses g t space o) (acceptedAnswer g t o) (none-moved m) ∙ rw (lt-ltb _ _ l, firstCause))
 
   -- then a need that exceeds the space, whether rows collide or not.
   pub need-refused : space < proposedNeed g t o → refusedNeed needExceedsSpace (proposedNeed g t o) ≡ placed_of g t space o
   unfolding placed_of
   need-refused l =
-      let told : Gives (placedCauses g t space o) (acceptedAnswer g t o) (refusedNeed needExceedsSpace (proposedNeed g t o)) = given (lt-ltb _ _ l) in
+      let told : Gives (planCauses g t space o) (acceptedAnswer g t o) (refusedNeed needExceedsSpace (proposedNeed g t o)) = given (lt-ltb _ _ l) in
       told.is
 
   -- ---- what decides where a cause does not hold
@@ -57,17 +57,17 @@ module _ (g : ℕ) (t : List ℤ) (space : ℕ) (o : List ℤ) where
   -- Past the checks 1 to 5, the inspector's own.
   pub proposal-decides : Checked g t space (length o) → proposalOf g t space o ≡ inspectOf g t space o
   unfolding proposalOf inspectOf
-  proposal-decides c = sym (follows-more (tableCauses g t space (length o)) (proposalCauses g t space o) (acceptedAnswer g t o) (none-refuses t (length o) g space c))
+  proposal-decides c = sym (follows-more (tableCauses g t space (length o)) (ownCauses g t space o) (acceptedAnswer g t o) (none-refuses t (length o) g space c))
 
   -- Past 8 and 9, the checks 7 and 10.
   pub placed-decides : rows t ≤ firstIn (moved t o) 0 (rows t) → rows t ≤ firstIn (offGrid g o) 0 (rows t) → placed_of g t space o ≡ proposalOf g t space o
   unfolding placed_of proposalOf
-  placed-decides m l = sym (follows-more (offsetCauses g t o) (placedCauses g t space o) (acceptedAnswer g t o) ((none-moved m).0, none-off-grid l))
+  placed-decides m l = sym (follows-more (offsetCauses g t o) (planCauses g t space o) (acceptedAnswer g t o) ((none-moved m).0, none-off-grid l))
 
   -- Past 7, the check 10.
   pub pair-decides : proposedNeed g t o ≤ space → pair_of g t o ≡ placed_of g t space o
   unfolding pair_of placed_of
-  pair-decides l = sym (follows-more (proposedNeedCauses g t space o) (pairCauses g t o) (acceptedAnswer g t o) (le-ltb _ _ l, tt))
+  pair-decides l = sym (follows-more (needCauses g t space o) (pairCauses g t o) (acceptedAnswer g t o) (le-ltb _ _ l, tt))
 
 module _ (g : ℕ) (t : List ℤ) (o : List ℤ) where
   -- Two rows that collide are told, the least pair of them.

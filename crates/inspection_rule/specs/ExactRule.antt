@@ -27,7 +27,7 @@ use Rattle.alignment.specs.Rounding.{up-something, up-nothing}
 use Rattle.request_table.specs.Table.{rows, word, request, fixed, fixedOffset}
 use Rattle.request_table.specs.WellFormed.{WellFormed, passes, passed-is-well-formed}
 use Rattle.inspection_rule.specs.Answers.{proposal-decides}
-use Rattle.inspection_rule.specs.Inspect.{proposed, moved, offGrid, proposedNeed, proposedCollide, proposalCauses, inspectCauses, acceptedAnswer, proposalOf, inspectOf}
+use Rattle.inspection_rule.specs.Inspect.{proposed, moved, offGrid, proposedNeed, proposedCollide, ownCauses, inspectCauses, acceptedAnswer, proposalOf, inspectOf}
 
 -- A word that is a multiple of the grid from 0 on.
 pub record Aligned (g : ℕ) (z : ℤ) : Type 0 where
@@ -160,7 +160,7 @@ module _ (g : ℕ) (t : List ℤ) (space : ℕ) (o : List ℤ) where
       let Moved-none = none_found (moved t o) (rows t) p.still in
       let grid-none = none_found (offGrid g o) (rows t) p.even in
       let pair-none = none-paired (proposedCollide g t o) (rows t) p.clear in
-      sym (proposal-decides g t space o p.checks) ∙ follows (proposalCauses g t space o) (acceptedAnswer g t o) (Moved-none, (grid-none, (le-ltb _ _ p.within-space, (pair-none, tt))))
+      sym (proposal-decides g t space o p.checks) ∙ follows (ownCauses g t space o) (acceptedAnswer g t o) (Moved-none, (grid-none, (le-ltb _ _ p.within-space, (pair-none, tt))))
 
   -- What passes is acceptable,
   pub passed-acceptable : 0 < g → Passed g t space o → Acceptable g t space o

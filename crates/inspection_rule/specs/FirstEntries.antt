@@ -15,7 +15,7 @@ use Rattle.request_table.specs.Buffers.{bufferAt, collides}
 use Rattle.request_table.specs.Checks.{tableCauses}
 use Rattle.request_table.specs.Needs.{need-same}
 use Rattle.request_table.specs.Table.{rows, fixed, fixedOffset, onGrid}
-use Rattle.inspection_rule.specs.Inspect.{proposed, moved, offGrid, proposedNeed, proposedCollide, proposalCauses, inspectOf}
+use Rattle.inspection_rule.specs.Inspect.{proposed, moved, offGrid, proposedNeed, proposedCollide, ownCauses, inspectOf}
 
 module _ (g : ℕ) (t : List ℤ) (space : ℕ) (o other : List ℤ) (same : (r : ℕ) → r < rows t → word_at o r ≡ word_at other r) where
   same-offset : (r : ℕ) → r < rows t → proposed o r ≡ proposed other r
@@ -36,7 +36,7 @@ module _ (g : ℕ) (t : List ℤ) (space : ℕ) (o other : List ℤ) (same : (r 
   same-collide : (a b : ℕ) → a < b → b < rows t → proposedCollide g t o a b ≡ proposedCollide g t other a b
   same-collide a b l m = ap₂ (λ (x y : ℕ). collides (bufferAt g t a x) (bufferAt g t b y)) (same-offset a (omega arith)) (same-offset b m)
 
-  same-causes : proposalCauses g t space o ≡ proposalCauses g t space other
+  same-causes : ownCauses g t space o ≡ ownCauses g t space other
   same-causes =
       let p = pair_same (proposedCollide g t o) (proposedCollide g t other) (rows t) same-collide in
       rw (

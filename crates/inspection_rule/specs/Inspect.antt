@@ -41,8 +41,8 @@ abbrev pub gridCauses : ℕ → List ℤ → List ℤ → List (Cause Answer)
 gridCauses g t o = (holdsBelow (offGrid g o) (rows t) ⇒ A.refusedAt A.badOffset (firstIn (offGrid g o) 0 (rows t))) ∷ []
 
 -- 7: the need exceeds the space.
-abbrev pub proposedNeedCauses : ℕ → List ℤ → ℕ → List ℤ → List (Cause Answer)
-proposedNeedCauses g t space o = (ltb space (proposedNeed g t o) ⇒ A.refusedNeed A.needExceedsSpace (proposedNeed g t o)) ∷ []
+abbrev pub needCauses : ℕ → List ℤ → ℕ → List ℤ → List (Cause Answer)
+needCauses g t space o = (ltb space (proposedNeed g t o) ⇒ A.refusedNeed A.needExceedsSpace (proposedNeed g t o)) ∷ []
 
 -- 10: two rows collide, the least a, then the least b.
 abbrev pub pairCauses : ℕ → List ℤ → List ℤ → List (Cause Answer)
@@ -56,16 +56,16 @@ abbrev pub offsetCauses : ℕ → List ℤ → List ℤ → List (Cause Answer)
 offsetCauses g t o = movedCauses t o ++ gridCauses g t o
 
 -- 7, 10.
-abbrev pub placedCauses : ℕ → List ℤ → ℕ → List ℤ → List (Cause Answer)
-placedCauses g t space o = proposedNeedCauses g t space o ++ pairCauses g t o
+abbrev pub planCauses : ℕ → List ℤ → ℕ → List ℤ → List (Cause Answer)
+planCauses g t space o = needCauses g t space o ++ pairCauses g t o
 
 -- The inspector's own: 8, 9, 7, 10.
-abbrev pub proposalCauses : ℕ → List ℤ → ℕ → List ℤ → List (Cause Answer)
-proposalCauses g t space o = offsetCauses g t o ++ placedCauses g t space o
+abbrev pub ownCauses : ℕ → List ℤ → ℕ → List ℤ → List (Cause Answer)
+ownCauses g t space o = offsetCauses g t o ++ planCauses g t space o
 
 -- 1, 2, 3, 4, 5, then its own.
 abbrev pub inspectCauses : ℕ → List ℤ → ℕ → List ℤ → List (Cause Answer)
-inspectCauses g t space o = tableCauses g t space (length o) ++ proposalCauses g t space o
+inspectCauses g t space o = tableCauses g t space (length o) ++ ownCauses g t space o
 
 -- Where no cause holds: accepted, with the need.
 abbrev pub acceptedAnswer : ℕ → List ℤ → List ℤ → Answer
@@ -77,7 +77,7 @@ pair_of g t o = firstCause (pairCauses g t o) (acceptedAnswer g t o)
 
 -- The answer past the checks 1 to 5.
 unfoldable pub proposalOf : ℕ → List ℤ → ℕ → List ℤ → Answer
-proposalOf g t space o = firstCause (proposalCauses g t space o) (acceptedAnswer g t o)
+proposalOf g t space o = firstCause (ownCauses g t space o) (acceptedAnswer g t o)
 
 -- The inspector's answer: the first of 1, 2, 3, 4, 5, 8, 9, 7, 10 that holds, else accepted with the need.
 unfoldable pub inspectOf : ℕ → List ℤ → ℕ → List ℤ → Answer

@@ -6,7 +6,6 @@ use Rattle.answer.specs.Answer as A
 use Rattle.bounded.specs.Causes.{Cause, ◌⇒◌, firstCause}
 use Rattle.bounded.specs.First.{firstIn, holdsBelow}
 use Rattle.bounded.specs.Replaced.{replaced}
-use Rattle.length_checks.specs.LengthChecks.{lengthCauses}
 use Rattle.lifetime_rule.specs.Uses.{greatestOperators, greatestTensors, greatestUses, count, wholeUses, badUse}
 use Rattle.lifetime_rule.specs.Lifetimes.{unnamed, tooEarly, lifetimeWord}
 
@@ -17,7 +16,11 @@ outOfLimits operators tensors u =
 
 -- 1, 2 and 3. Two entries a tensor are asked for.
 abbrev pub sizeCauses : ℕ → ℕ → List ℤ → ℕ → List (Cause Answer)
-sizeCauses operators tensors u room = lengthCauses (not (wholeUses u)) (outOfLimits operators tensors u) (ltb room (tensors * 2))
+sizeCauses operators tensors u room =
+    (not (wholeUses u) ⇒ A.refused A.notWholeRows)
+    ∷ (outOfLimits operators tensors u ⇒ A.refused A.tooMany)
+    ∷ (ltb room (tensors * 2) ⇒ A.refused A.tableTooShort)
+    ∷ []
 
 -- 5: the lowest bad use.
 abbrev pub useCauses : ℕ → ℕ → List ℤ → List (Cause Answer)

@@ -2,7 +2,7 @@
 -- All is a total function of the list and the use's number. A negative word reads as a number above every limit (`words`), so a test of an upper limit
 -- also refuses it; `GoodUses` says the rule again in signed numbers and proves that it is the same.
 use Rattle.std.specs.Prelude.{ℕ, Bool, not, ◌&&◌, ◌||◌, List, leb, ltb, eqb, ℤ}
-use Rattle.words.specs.Rows.{rows_of, hasWholeRows, rowWord}
+use Rattle.words.specs.Rows.{rows_of, hasWholeRows, wordOf}
 use Rattle.words.specs.Words.{natural}
 use Rattle.lifetime_rule.specs.declared.Use.{Use}
 
@@ -44,7 +44,7 @@ wholeUses u = hasWholeRows 3 u
 
 -- The word in a column of a use.
 abbrev pub word : List ℤ → ℕ → ℕ → ℤ
-word u k column = rowWord 3 u k column
+word u k column = wordOf 3 u k column
 
 -- A use, as the code has it.
 unfoldable pub useAt : List ℤ → ℕ → Use

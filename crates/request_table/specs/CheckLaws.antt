@@ -9,7 +9,7 @@ use Rattle.bounded.specs.Causes.{NoneHolds, AllRefuse, Gives, given, next, none_
 use Rattle.bounded.specs.First.{firstIn, holdsBelow, none-holds, none_found}
 use Rattle.request_table.specs.Limits.{greatestRows, greatestSpace}
 use Rattle.request_table.specs.Table.{rows, request, good, badRow}
-use Rattle.request_table.specs.Checks.{tableLengthCauses, contentCauses, tableCauses, tableLengthsOf, contentOf, checkOf}
+use Rattle.request_table.specs.Checks.{shapeCauses, contentCauses, tableCauses, shape_of, contentOf, checkOf}
 
 -- What lets a table and a room pass the checks 1 to 3.
 pub record Shaped (t : List ℤ) (room : ℕ) : Type 0 where
@@ -43,30 +43,30 @@ module _ (g : ℕ) (t : List ℤ) (space : ℕ) where
   content-passed s l = content-given (next (le-ltb _ _ s) (next (le-ltb _ _ l) none_left))
 
 module _ (t : List ℤ) (room : ℕ) where
-  shape-refuses : AllRefuse number_of (tableLengthCauses t room)
+  shape-refuses : AllRefuse number_of (shapeCauses t room)
   shape-refuses = (omega arith, (omega arith, (omega arith, tt)))
 
-  shaped_of : NoneHolds (tableLengthCauses t room) → Shaped t room
+  shaped_of : NoneHolds (shapeCauses t room) → Shaped t room
   shaped_of n = record { whole = eqb-true _ _ (not-false _ n.0); few = ltb-false _ _ n.1.0; roomy = ltb-false _ _ n.1.1.0 }
 
-  none_of : Shaped t room → NoneHolds (tableLengthCauses t room)
+  none_of : Shaped t room → NoneHolds (shapeCauses t room)
   none_of s = (ap not (eq-eqb _ _ s.whole), (le-ltb _ _ s.few, (le-ltb _ _ s.roomy, tt)))
 
   -- The checks 1 to 3 pass: the lengths are as they must be.
-  pub shape-passed : (tableLengthsOf t room).number ≡ 0 → Shaped t room
-  unfolding tableLengthsOf
-  shape-passed e = shaped_of (passed number_of (tableLengthCauses t room) (doneWith 0) shape-refuses e).0
+  pub shape-passed : (shape_of t room).number ≡ 0 → Shaped t room
+  unfolding shape_of
+  shape-passed e = shaped_of (passed number_of (shapeCauses t room) (doneWith 0) shape-refuses e).0
 
   module _ (g space : ℕ) where
     -- A refusal of the checks 1 to 3 is the refusal of all five;
-    pub shape-refused : ((tableLengthsOf t room).number ≡ 0 → ⊥) → tableLengthsOf t room ≡ checkOf g t space room
-    unfolding tableLengthsOf checkOf
-    shape-refused h = refused-stands number_of (tableLengthCauses t room) (contentCauses g t space) (doneWith 0) (doneWith 0) refl h
+    pub shape-refused : ((shape_of t room).number ≡ 0 → ⊥) → shape_of t room ≡ checkOf g t space room
+    unfolding shape_of checkOf
+    shape-refused h = refused-stands number_of (shapeCauses t room) (contentCauses g t space) (doneWith 0) (doneWith 0) refl h
 
     -- past them, the checks 4 and 5 decide.
     pub content-decides : Shaped t room → contentOf g t space ≡ checkOf g t space room
     unfolding checkOf contentOf
-    content-decides s = sym (follows-more (tableLengthCauses t room) (contentCauses g t space) (doneWith 0) (none_of s))
+    content-decides s = sym (follows-more (shapeCauses t room) (contentCauses g t space) (doneWith 0) (none_of s))
 
     table-refuses : AllRefuse number_of (tableCauses g t space room)
     table-refuses = (omega arith, (omega arith, (omega arith, (omega arith, (omega arith, tt)))))

@@ -5,13 +5,16 @@ use Rattle.answer.specs.declared.Answer.{Answer}
 use Rattle.answer.specs.Answer as A
 use Rattle.bounded.specs.Causes.{Cause, ◌⇒◌, firstCause}
 use Rattle.bounded.specs.First.{firstIn, holdsBelow}
-use Rattle.length_checks.specs.LengthChecks.{lengthCauses}
 use Rattle.request_table.specs.Limits.{greatestRows, greatestSpace}
 use Rattle.request_table.specs.Table.{rows, wholeRows, badRow}
 
 -- 1 to 3: the tables' lengths.
-abbrev pub tableLengthCauses : List ℤ → ℕ → List (Cause Answer)
-tableLengthCauses t room = lengthCauses (not (wholeRows t)) (ltb greatestRows (rows t)) (ltb room (rows t))
+abbrev pub shapeCauses : List ℤ → ℕ → List (Cause Answer)
+shapeCauses t room =
+    (not (wholeRows t) ⇒ A.refused A.notWholeRows)
+    ∷ (ltb greatestRows (rows t) ⇒ A.refused A.tooMany)
+    ∷ (ltb room (rows t) ⇒ A.refused A.tableTooShort)
+    ∷ []
 
 -- 4 and 5: the space, and the lowest bad row.
 abbrev pub contentCauses : ℕ → List ℤ → ℕ → List (Cause Answer)
@@ -22,11 +25,11 @@ contentCauses g t space =
 
 -- 1 to 5.
 abbrev pub tableCauses : ℕ → List ℤ → ℕ → ℕ → List (Cause Answer)
-tableCauses g t space room = tableLengthCauses t room ++ contentCauses g t space
+tableCauses g t space room = shapeCauses t room ++ contentCauses g t space
 
 -- The answer of the checks 1 to 3 alone: a refusal, or done with no need.
-unfoldable pub tableLengthsOf : List ℤ → ℕ → Answer
-tableLengthsOf t room = firstCause (tableLengthCauses t room) (A.doneWith 0)
+unfoldable pub shape_of : List ℤ → ℕ → Answer
+shape_of t room = firstCause (shapeCauses t room) (A.doneWith 0)
 
 -- The answer of the checks 4 and 5 alone.
 unfoldable pub contentOf : ℕ → List ℤ → ℕ → Answer

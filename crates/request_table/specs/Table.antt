@@ -2,7 +2,7 @@
 -- All is a total function of the table and the row's number. A negative word reads as a number above every limit (`words`), so a test of an upper
 -- limit also refuses it; `GoodRows` says the rule again in signed numbers, as document 01 has it, and proves that it is the same.
 use Rattle.std.specs.Prelude.{ℕ, ◌%◌, Bool, not, ◌&&◌, ◌||◌, List, leb, eqb, ℤ}
-use Rattle.words.specs.Rows.{rows_of, hasWholeRows, rowWord}
+use Rattle.words.specs.Rows.{rows_of, hasWholeRows, wordOf}
 use Rattle.words.specs.Words.{natural, isMinusOne}
 use Rattle.request_table.specs.Limits.{greatestSpace, lastMoment}
 use Rattle.request_table.specs.declared.Request.{Request}
@@ -17,7 +17,7 @@ wholeRows t = hasWholeRows 4 t
 
 -- The word in a column of a row.
 abbrev pub word : List ℤ → ℕ → ℕ → ℤ
-word t r column = rowWord 4 t r column
+word t r column = wordOf 4 t r column
 
 -- A row, as the code has it.
 unfoldable pub request : List ℤ → ℕ → Request

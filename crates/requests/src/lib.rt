@@ -3,7 +3,7 @@
 ghost use Rattle.std.specs.Prelude.{◌≤◌, ◌≡◌};
 ghost use Rattle.request_table.specs.Limits.{greatestRows};
 ghost use Rattle.request_table.specs.Table.{rows as rows_of};
-ghost use Rattle.request_table.specs.Checks.{tableLengthsOf, contentOf, checkOf};
+ghost use Rattle.request_table.specs.Checks.{shape_of, contentOf, checkOf};
 
 use answer::Answer;
 use request_table::{GREATEST_ROWS, GREATEST_SPACE, ROW_WORDS};
@@ -13,7 +13,7 @@ pub const GRID: u32 = 16;
 
 // The checks 1 to 3: the tables' lengths.
 fn check_shape(table: &[i32], room: usize) -> Answer
-    ensures { result ≡ tableLengthsOf table.now room }
+    ensures { result ≡ shape_of table.now room }
 {
     let n = table.len() / ROW_WORDS;
     let ragged = table.len() % ROW_WORDS != 0;

@@ -14,7 +14,7 @@ use Rattle.request_table.specs.Limits.{greatestRows, greatestSpace}
 use Rattle.tensor_sizes.specs.ByteSize.{greatestDimensions, byteSizeOf}
 use Rattle.tensor_sizes.specs.SizeOutcomes.{need-within}
 use Rattle.shape_rule.specs.ShapeTable.{shapeCount, shapeWord, type_code, dimensionCount, dimensions, tensorSize, badShape}
-use Rattle.shape_rule.specs.Sized.{requestWord, requestEntry, shapeLengthCauses, shapeCauses, shapeLengthsOf, shapesOf, sizedOf, finalRequests}
+use Rattle.shape_rule.specs.Sized.{requestWord, requestEntry, lengthCauses, shapeCauses, lengthsOf, shapesOf, sizedOf, finalRequests}
 
 -- What lets the tables' lengths pass.
 pub record Fitting (t : List ℤ) (room : ℕ) : Type 0 where
@@ -82,31 +82,31 @@ module _ (t : List ℤ) {r : ℕ} (first : r ≡ firstIn (badShape t) 0 (shapeCo
 
 module _ (t : List ℤ) (room : ℕ) where
   -- What is given for the lengths, as the code goes through them, is their answer.
-  pub lengths-given : {x : Answer} → Gives (shapeLengthCauses t room) (doneWith 0) x → x ≡ shapeLengthsOf t room
-  unfolding shapeLengthsOf
+  pub lengths-given : {x : Answer} → Gives (lengthCauses t room) (doneWith 0) x → x ≡ lengthsOf t room
+  unfolding lengthsOf
   lengths-given g = g.is
 
-  length-refuses : AllRefuse number_of (shapeLengthCauses t room)
+  length-refuses : AllRefuse number_of (lengthCauses t room)
   length-refuses = (omega arith, (omega arith, (omega arith, tt)))
 
   -- They pass: they are as they must be.
-  pub lengths-passed : (shapeLengthsOf t room).number ≡ 0 → Fitting t room
-  unfolding shapeLengthsOf
+  pub lengths-passed : (lengthsOf t room).number ≡ 0 → Fitting t room
+  unfolding lengthsOf
   lengths-passed e =
-      let n = (passed number_of (shapeLengthCauses t room) (doneWith 0) length-refuses e).0 in
+      let n = (passed number_of (lengthCauses t room) (doneWith 0) length-refuses e).0 in
       record { whole = eqb-true _ _ (not-false _ n.0); few = ltb-false _ _ n.1.0; roomy = ltb-false _ _ n.1.1.0 }
 
   -- A refusal of theirs stands;
-  pub lengths-stand : ((shapeLengthsOf t room).number ≡ 0 → ⊥) → shapeLengthsOf t room ≡ sizedOf t room
-  unfolding shapeLengthsOf sizedOf
-  lengths-stand h = refused-stands number_of (shapeLengthCauses t room) (shapeCauses t) (doneWith 0) (doneWith 0) refl h
+  pub lengths-stand : ((lengthsOf t room).number ≡ 0 → ⊥) → lengthsOf t room ≡ sizedOf t room
+  unfolding lengthsOf sizedOf
+  lengths-stand h = refused-stands number_of (lengthCauses t room) (shapeCauses t) (doneWith 0) (doneWith 0) refl h
 
   -- past them the shapes decide.
   pub shapes-decide : Fitting t room → shapesOf t ≡ sizedOf t room
   unfolding shapesOf sizedOf
   shapes-decide f =
-      let n : NoneHolds (shapeLengthCauses t room) = (ap not (eq-eqb _ _ f.whole), (le-ltb _ _ f.few, (le-ltb _ _ f.roomy, tt))) in
-      sym (follows-more (shapeLengthCauses t room) (shapeCauses t) (doneWith 0) n)
+      let n : NoneHolds (lengthCauses t room) = (ap not (eq-eqb _ _ f.whole), (le-ltb _ _ f.few, (le-ltb _ _ f.roomy, tt))) in
+      sym (follows-more (lengthCauses t room) (shapeCauses t) (doneWith 0) n)
 
 -- ---- what is left in the end
 

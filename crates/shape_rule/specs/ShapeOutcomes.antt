@@ -17,7 +17,7 @@ use Rattle.words.specs.WordOrders.{lt_of}
 use Rattle.words.specs.Words.{natural}
 use Rattle.shape_rule.specs.ShapeAnswers.{Fitting, bad-of, good_of, many-dimensions, few-dimensions, shape-refused, shapes-passed, lengths-given, lengths-stand, shapes-decide}
 use Rattle.shape_rule.specs.ShapeTable.{shapeCount, shapeWord, dimensionCount, tensorSize, badShape}
-use Rattle.shape_rule.specs.Sized.{shapeLengthsOf, shapesOf, sizedOf}
+use Rattle.shape_rule.specs.Sized.{lengthsOf, shapesOf, sizedOf}
 
 -- ---- a row
 
@@ -83,7 +83,7 @@ shapes-outcome t = go (holdsBelow (badShape t) (shapeCount t)) refl
 pub sized-outcome : (t : List ℤ) (room : ℕ) → SizedOutcome t room
 sized-outcome t room = go (same_or_not (length t % 13) 0) (lt-or-le greatestRows (shapeCount t)) (lt-or-le room (shapeCount t * 4)) (shapes-outcome t)
   where
-    stands : (x : Answer) → (x.number ≡ 0 → ⊥) → x ≡ shapeLengthsOf t room → sizedOf t room ≡ x
+    stands : (x : Answer) → (x.number ≡ 0 → ⊥) → x ≡ lengthsOf t room → sizedOf t room ≡ x
     stands x f e = sym (e ∙ lengths-stand t room (λ z. f (ap (λ (y : Answer). y.number) e ∙ z)))
 
     go : (length t % 13 ≡ 0) ⊎ (length t % 13 ≡ 0 → ⊥) → (greatestRows < shapeCount t) ⊎ (shapeCount t ≤ greatestRows) → (room < shapeCount t * 4) ⊎ (shapeCount t * 4 ≤ room)

@@ -5,7 +5,7 @@ use Rattle.std.specs.Prelude.{ℕ, ◌+◌, ◌*◌, Bool, true, false, not, Lis
 use Rattle.answer.specs.Answer as A
 use Rattle.answer.specs.declared.Answer.{Answer}
 use Rattle.tensor_sizes.specs.ByteSize.{greatestDimensions, byteSizeOf}
-use Rattle.words.specs.Rows.{rows_of, rowWord}
+use Rattle.words.specs.Rows.{rows_of, wordOf}
 use Rattle.words.specs.Words.{natural}
 
 -- How many whole rows the table has.
@@ -14,7 +14,7 @@ shapeCount t = rows_of 13 t
 
 -- The word in a column of a row.
 abbrev pub shapeWord : List ℤ → ℕ → ℕ → ℤ
-shapeWord t r column = rowWord 13 t r column
+shapeWord t r column = wordOf 13 t r column
 
 -- "code,
 abbrev pub type_code : List ℤ → ℕ → ℤ

@@ -7,7 +7,6 @@ use Rattle.bounded.specs.Causes.{Cause, ◌⇒◌, firstCause}
 use Rattle.bounded.specs.First.{firstIn, holdsBelow}
 use Rattle.bounded.specs.Listed.{list_from}
 use Rattle.bounded.specs.Replaced.{replaced}
-use Rattle.length_checks.specs.LengthChecks.{lengthCauses}
 use Rattle.request_table.specs.Limits.{greatestRows}
 use Rattle.words.specs.Rows.{hasWholeRows}
 use Rattle.shape_rule.specs.ShapeTable.{shapeCount, shapeWord, tensorSize, badShape}
@@ -25,8 +24,12 @@ unfoldable pub sizedTable : List ℤ → List ℤ
 sizedTable t = list_from (requestEntry t) 0 (shapeCount t * 4)
 
 -- 1 to 3: the tables' lengths. Four entries a row are asked for.
-abbrev pub shapeLengthCauses : List ℤ → ℕ → List (Cause Answer)
-shapeLengthCauses t room = lengthCauses (not (hasWholeRows 13 t)) (ltb greatestRows (shapeCount t)) (ltb room (shapeCount t * 4))
+abbrev pub lengthCauses : List ℤ → ℕ → List (Cause Answer)
+lengthCauses t room =
+    (not (hasWholeRows 13 t) ⇒ A.refused A.notWholeRows)
+    ∷ (ltb greatestRows (shapeCount t) ⇒ A.refused A.tooMany)
+    ∷ (ltb room (shapeCount t * 4) ⇒ A.refused A.tableTooShort)
+    ∷ []
 
 -- The first bad shape's own number, "with a = its row".
 abbrev pub shapeCauses : List ℤ → List (Cause Answer)
@@ -34,8 +37,8 @@ shapeCauses t =
     (holdsBelow (badShape t) (shapeCount t) ⇒ A.refusedAt (tensorSize t (firstIn (badShape t) 0 (shapeCount t))).number (firstIn (badShape t) 0 (shapeCount t))) ∷ []
 
 -- The answer of the lengths alone.
-unfoldable pub shapeLengthsOf : List ℤ → ℕ → Answer
-shapeLengthsOf t room = firstCause (shapeLengthCauses t room) (A.doneWith 0)
+unfoldable pub lengthsOf : List ℤ → ℕ → Answer
+lengthsOf t room = firstCause (lengthCauses t room) (A.doneWith 0)
 
 -- The answer of the shapes alone.
 unfoldable pub shapesOf : List ℤ → Answer
@@ -43,7 +46,7 @@ shapesOf t = firstCause (shapeCauses t) (A.doneWith 0)
 
 -- The answer: a refusal, or done with all zeros.
 unfoldable pub sizedOf : List ℤ → ℕ → Answer
-sizedOf t room = firstCause (shapeLengthCauses t room ++ shapeCauses t) (A.doneWith 0)
+sizedOf t room = firstCause (lengthCauses t room ++ shapeCauses t) (A.doneWith 0)
 
 -- The lent table in the end: the rows in front and the rest as it was; a refusal leaves it as it was.
 unfoldable pub finalRequests : List ℤ → List ℤ → List ℤ

@@ -4,7 +4,7 @@ ghost use Rattle.std.specs.Prelude.{◌*◌, ◌/◌, ◌%◌, ◌≤◌, ◌<�
 ghost use Rattle.bounded.specs.Replaced.{replaced};
 ghost use Rattle.request_table.specs.Limits.{greatestRows};
 ghost use Rattle.shape_rule.specs.ShapeTable.{shapeCount, tensorSize};
-ghost use Rattle.shape_rule.specs.Sized.{requestWord, requestEntry, shapeLengthsOf, shapesOf, sizedOf, finalRequests};
+ghost use Rattle.shape_rule.specs.Sized.{requestWord, requestEntry, lengthsOf, shapesOf, sizedOf, finalRequests};
 
 use answer::Answer;
 use request_table::{GREATEST_ROWS, ROW_WORDS};
@@ -81,7 +81,7 @@ fn store(shapes: &[i32], requests: &mut [i32])
 
 // The checks 1 to 3: the tables' lengths.
 fn check_lengths(shapes: &[i32], room: usize) -> Answer
-    ensures { result ≡ shapeLengthsOf shapes.now room }
+    ensures { result ≡ lengthsOf shapes.now room }
 {
     let n = shapes.len() / SHAPE_WORDS;
     let ragged = shapes.len() % SHAPE_WORDS != 0;

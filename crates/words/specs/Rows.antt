@@ -11,5 +11,5 @@ abbrev pub hasWholeRows : ℕ → List ℤ → Bool
 hasWholeRows width t = eqb (length t % width) 0
 
 -- The word in a column of a row.
-abbrev pub rowWord : ℕ → List ℤ → ℕ → ℕ → ℤ
-rowWord width t r column = word_at t (r * width + column)
+abbrev pub wordOf : ℕ → List ℤ → ℕ → ℕ → ℤ
+wordOf width t r column = word_at t (r * width + column)

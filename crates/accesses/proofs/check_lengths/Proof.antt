@@ -1,6 +1,6 @@
 -- `accesses::check_lengths` meets its contract: the three tests are those of the list.
 use borrow.Author.Rules.{rules}
-use Rattle.access_rule.specs.Script.{scriptLengthsOf}
+use Rattle.access_rule.specs.Script.{lengthsOf as scriptLengthsOf}
 use Rattle.length_checks.specs.LengthChecks.{lengthsOf}
 use Rattle.accesses.proofs.check_lengths.Statement.{statement}
 use Rattle.accesses.proofs.check_lengths.Tie as tie

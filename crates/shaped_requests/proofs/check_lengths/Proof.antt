@@ -1,7 +1,7 @@
 -- `shaped_requests::check_lengths` meets its contract: the three tests are those of the list.
 use borrow.Author.Rules.{rules}
 use Rattle.length_checks.specs.LengthChecks.{lengthsOf}
-use Rattle.shape_rule.specs.Sized.{shapeLengthsOf}
+use Rattle.shape_rule.specs.Sized.{lengthsOf as shapeLengthsOf}
 use Rattle.shaped_requests.proofs.check_lengths.Statement.{statement}
 use Rattle.shaped_requests.proofs.check_lengths.Tie as tie
 
