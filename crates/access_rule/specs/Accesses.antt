@@ -2,15 +2,15 @@
 -- The document's touch is an access here. All is a total function of the script and the touch's number. A negative word reads as a number above every
 -- limit (`words`), so a test of an upper limit also refuses it; `GoodScripts` says the rule again in signed numbers and proves that it is the same.
 use Rattle.std.specs.Prelude.{ℕ, zero, suc, Bool, not, ◌&&◌, ◌||◌, List, leb, ltb, ℤ}
-use Rattle.words.specs.Words.{natural, isMinusOne}
+use Rattle.words.specs.Words.{natural, is_minus_one}
 use Rattle.request_table.specs.Table.{rows, word, request}
 use Rattle.request_table.specs.declared.Request.{Request}
 use Rattle.units.specs.declared.Moment.{Moment}
 use Rattle.access_rule.specs.declared.Access.{Access}
 
 -- "At most 4,096 rows.", which document 02, order 5, raises to 16,384.
-abbrev pub greatestAccesses : ℕ
-greatestAccesses = 16384
+abbrev pub greatest_accesses : ℕ
+greatest_accesses = 16384
 
 -- How many whole touches the script has. A touch is four words, as a request row is.
 abbrev pub count : List ℤ → ℕ
@@ -23,14 +23,14 @@ access s k =
       moment = record { 0 = natural (word s k 0) };
       row = record { 0 = natural (word s k 1) };
       index = natural (word s k 2);
-      reads = isMinusOne (word s k 3);
+      reads = is_minus_one (word s k 3);
       value = natural (word s k 3);
     }
 
 -- The moment of the touch before; before the first there is none, and 0 stands for it.
-unfoldable pub momentBefore : List ℤ → ℕ → ℕ
-momentBefore s zero = 0
-momentBefore s (suc k) = (access s k).moment.0
+unfoldable pub moment_before : List ℤ → ℕ → ℕ
+moment_before s zero = 0
+moment_before s (suc k) = (access s k).moment.0
 
 -- "A row is alive from its first moment to its last, both included."
 abbrev pub alive : Request → Moment → Bool
@@ -47,8 +47,8 @@ reaches t a =
 
 -- "A touch is good if its moment is at least the one before", and it reaches a byte so.
 unfoldable pub good : List ℤ → List ℤ → ℕ → Bool
-good t s k = leb (momentBefore s k) (access s k).moment.0 && reaches t (access s k)
+good t s k = leb (moment_before s k) (access s k).moment.0 && reaches t (access s k)
 
 -- A bad touch is any other.
-abbrev pub badAccess : List ℤ → List ℤ → ℕ → Bool
-badAccess t s k = not (good t s k)
+abbrev pub bad_access : List ℤ → List ℤ → ℕ → Bool
+bad_access t s k = not (good t s k)

@@ -10,36 +10,36 @@ use Rattle.std.proofs.Math.Bool.{true, false, not}
 use Rattle.std.proofs.Common.{inl, inr, ◌∙◌, ap₂, arith}
 use Rattle.std.proofs.Math.Path.{refl, sym, ap, subst}
 use borrow.Author.Tests.{leb-true, ltb-true, ltb-false, not-false}
-use Rattle.answer.specs.Answer.{number_of, doneWith, refusedAt, badAccess as badAccessNumber}
+use Rattle.answer.specs.Answer.{number_of, done_with, refused_at, bad_access as bad_access_number}
 use Rattle.bounded.specs.Boolean.{either, contrary}
-use Rattle.bounded.specs.First.{holdsBelow, none_found, none-holds}
+use Rattle.bounded.specs.First.{holds_below, none_found, none_holds}
 use Rattle.bounded.specs.Lowest.{Lowest}
-use Rattle.bounded.specs.Replaced.{replaced-at}
-use Rattle.words.specs.Words.{natural, isMinusOne}
-use Rattle.words.specs.WordOrders.{within, natural-of, natural-word, one_word}
-use Rattle.request_table.specs.Buffers.{bufferAt, end}
+use Rattle.bounded.specs.Replaced.{replaced_at}
+use Rattle.words.specs.Words.{natural, is_minus_one}
+use Rattle.words.specs.WordOrders.{within, natural_of, natural_word, one_word}
+use Rattle.request_table.specs.Buffers.{buffer_at, end}
 use Rattle.request_table.specs.GoodRows.{GoodRow}
-use Rattle.request_table.specs.Limits.{grid, greatestRows}
+use Rattle.request_table.specs.Limits.{grid, greatest_rows}
 use Rattle.request_table.specs.Table.{rows, word, request}
-use Rattle.inspection_rule.specs.ExactRule.{Passed, passed-says, passed-acceptable}
-use Rattle.inspection_rule.specs.Inspect.{proposed, proposedNeed, inspectOf}
-use Rattle.access_rule.specs.Accesses.{greatestAccesses, count, access, good, badAccess}
-use Rattle.access_rule.specs.Answers.{Sized, done-says, touches-decide, touches-passed, touch-refused, done-bytes, refusal-keeps}
-use Rattle.access_rule.specs.GoodAccesses.{Reaches, good-says}
-use Rattle.access_rule.specs.GoodScripts.{LivingByte, GoodAccess, GoodScript, rising, script-says, script-of, lowest-bad}
+use Rattle.inspection_rule.specs.ExactRule.{Passed, passed_says, passed_acceptable}
+use Rattle.inspection_rule.specs.Inspect.{proposed, proposed_need, inspect_of}
+use Rattle.access_rule.specs.Accesses.{greatest_accesses, count, access, good, bad_access}
+use Rattle.access_rule.specs.Answers.{Sized, done_says, touches_decide, touches_passed, touch_refused, done_bytes, refusal_keeps}
+use Rattle.access_rule.specs.GoodAccesses.{Reaches, good_says}
+use Rattle.access_rule.specs.GoodScripts.{LivingByte, GoodAccess, GoodScript, rising, script_says, script_of_lem, lowest_bad}
 use Rattle.access_rule.specs.Inside.{below_end, end_needed}
 use Rattle.access_rule.specs.LastWrites.{stands, untouched, read_answer}
-use Rattle.access_rule.specs.OneHolder.{Holds, one-holder}
-use Rattle.access_rule.specs.Run.{byte_of, arenaAfter, answerByte}
-use Rattle.access_rule.specs.Script.{touchesOf, scriptOf, finalArena, finalBytes}
+use Rattle.access_rule.specs.OneHolder.{Holds, one_holder}
+use Rattle.access_rule.specs.Run.{byte_of, arena_after, answer_byte}
+use Rattle.access_rule.specs.Script.{touches_of, script_of, final_arena, final_bytes}
 
 -- What demand 3 takes: an accepted plan, an arena at least as long as its space, a script of whole rows with no more touches than are allowed, room for
 -- the answers.
 pub record Lent (g : ℕ) (t : List ℤ) (space : ℕ) (o s : List ℤ) (arena bytes : List ℕ) : Type 0 where
-  pub accepted : (inspectOf g t space o).number ≡ 0
-  pub long-enough : space ≤ length arena
+  pub accepted : (inspect_of g t space o).number ≡ 0
+  pub long_enough : space ≤ length arena
   pub whole : length s % 4 ≡ 0
-  pub few : count s ≤ greatestAccesses
+  pub few : count s ≤ greatest_accesses
   pub room : count s ≤ length bytes
 
 -- Touch k reads.
@@ -51,8 +51,8 @@ abbrev pub Writes : List ℤ → ℕ → ℕ → Type 0
 Writes s k v = word s k 3 ≡ pos v
 
 -- "A touch falls on the arena byte numbered by its row's proposed offset plus its index".
-abbrev pub fallsOn : List ℤ → List ℤ → ℕ → ℕ
-fallsOn o s k = proposed o (natural (word s k 1)) + natural (word s k 2)
+abbrev pub falls_on : List ℤ → List ℤ → ℕ → ℕ
+falls_on o s k = proposed o (natural (word s k 1)) + natural (word s k 2)
 
 -- Two touches of the same row and index.
 pub record SameByte (s : List ℤ) (j k : ℕ) : Type 0 where
@@ -61,156 +61,156 @@ pub record SameByte (s : List ℤ) (j k : ℕ) : Type 0 where
 
 -- The script is done.
 abbrev pub ScriptDone : ℕ → List ℤ → ℕ → List ℤ → List ℤ → List ℕ → List ℕ → Type 0
-ScriptDone g t space o s arena bytes = scriptOf g t space o s (length arena) (length bytes) ≡ doneWith 0
+ScriptDone g t space o s arena bytes = script_of g t space o s (length arena) (length bytes) ≡ done_with 0
 
 -- The answer is 11 with the lowest touch that is not good, and arena and byte answers are as lent.
 pub record RefusedWhole (g : ℕ) (t : List ℤ) (space : ℕ) (o s : List ℤ) (arena bytes : List ℕ) : Type 0 where
   pub touch : ℕ
   pub lowest : Lowest (λ k. GoodAccess t s k → ⊥) (count s) touch
-  pub answer : scriptOf g t space o s (length arena) (length bytes) ≡ refusedAt badAccessNumber touch
-  pub arena-kept : finalArena g t space o s arena bytes ≡ arena
-  pub bytes-kept : finalBytes g t space o s arena bytes ≡ bytes
+  pub answer : script_of g t space o s (length arena) (length bytes) ≡ refused_at bad_access_number touch
+  pub arena_kept : final_arena g t space o s arena bytes ≡ arena
+  pub bytes_kept : final_bytes g t space o s arena bytes ≡ bytes
 
 -- The law.
 pub record Demand3 (g : ℕ) (t : List ℤ) (space : ℕ) (o s : List ℤ) (arena bytes : List ℕ) : Type 0 where
   -- (a) It is done exactly when moments never go back and each touch is a byte of a row alive then; otherwise it is refused whole.
-  pub done-exactly : ScriptDone g t space o s arena bytes ↔ GoodScript t s
-  pub refused-whole : (GoodScript t s → ⊥) → RefusedWhole g t space o s arena bytes
+  pub done_exactly : ScriptDone g t space o s arena bytes ↔ GoodScript t s
+  pub refused_whole : (GoodScript t s → ⊥) → RefusedWhole g t space o s arena bytes
   -- (b) In a script that is done, each touch falls below its row's end, so below the need, so below the space.
-  pub inside-arena : ScriptDone g t space o s arena bytes → (k r : ℕ) → k < count s → word s k 1 ≡ pos r
-      → (fallsOn o s k < end (bufferAt g t r (proposed o r))) × (end (bufferAt g t r (proposed o r)) ≤ proposedNeed g t o) × (proposedNeed g t o ≤ space)
+  pub inside_arena : ScriptDone g t space o s arena bytes → (k r : ℕ) → k < count s → word s k 1 ≡ pos r
+      → (falls_on o s k < end (buffer_at g t r (proposed o r))) × (end (buffer_at g t r (proposed o r)) ≤ proposed_need g t o) × (proposed_need g t o ≤ space)
   -- (c) A byte read is the last byte written there through the same row and index, whatever the others wrote between.
-  pub own-byte : ScriptDone g t space o s arena bytes → (j k v : ℕ) → j < k → k < count s → Reads s k → Writes s j v → SameByte s j k
-      → ((i w : ℕ) → j < i → i < k → Writes s i w → SameByte s i k → ⊥) → get_or (finalBytes g t space o s arena bytes) k 0 ≡ v
+  pub own_byte : ScriptDone g t space o s arena bytes → (j k v : ℕ) → j < k → k < count s → Reads s k → Writes s j v → SameByte s j k
+      → ((i w : ℕ) → j < i → i < k → Writes s i w → SameByte s i k → ⊥) → get_or (final_bytes g t space o s arena bytes) k 0 ≡ v
   -- (d) It is the value of the last earlier write, through any row, that falls on the same byte, or the byte lent where there is none.
-  pub last-write : ScriptDone g t space o s arena bytes → (j k v : ℕ) → j < k → k < count s → Reads s k → Writes s j v → fallsOn o s j ≡ fallsOn o s k
-      → ((i w : ℕ) → j < i → i < k → Writes s i w → fallsOn o s i ≡ fallsOn o s k → ⊥) → get_or (finalBytes g t space o s arena bytes) k 0 ≡ v
-  pub byte-lent : ScriptDone g t space o s arena bytes → (k : ℕ) → k < count s → Reads s k
-      → ((i w : ℕ) → i < k → Writes s i w → fallsOn o s i ≡ fallsOn o s k → ⊥) → get_or (finalBytes g t space o s arena bytes) k 0 ≡ get_or arena (fallsOn o s k) 0
+  pub last_write : ScriptDone g t space o s arena bytes → (j k v : ℕ) → j < k → k < count s → Reads s k → Writes s j v → falls_on o s j ≡ falls_on o s k
+      → ((i w : ℕ) → j < i → i < k → Writes s i w → falls_on o s i ≡ falls_on o s k → ⊥) → get_or (final_bytes g t space o s arena bytes) k 0 ≡ v
+  pub byte_lent : ScriptDone g t space o s arena bytes → (k : ℕ) → k < count s → Reads s k
+      → ((i w : ℕ) → i < k → Writes s i w → falls_on o s i ≡ falls_on o s k → ⊥) → get_or (final_bytes g t space o s arena bytes) k 0 ≡ get_or arena (falls_on o s k) 0
 
 -- ---- a touch's words, and the touch as the code has it
 
 -- A touch that reads, as the code has it,
 pub reads_of : (s : List ℤ) (k : ℕ) → Reads s k → (access s k).reads ≡ true
-unfolding access isMinusOne
-reads_of s k e = ap isMinusOne e
+unfolding access is_minus_one
+reads_of s k e = ap is_minus_one e
 
 -- and one that writes.
-pub writes-of : (s : List ℤ) (k v : ℕ) → Writes s k v → ((access s k).reads ≡ false) × ((access s k).value ≡ v)
-unfolding access isMinusOne natural
-writes-of s k v e = (ap isMinusOne e, ap natural e)
+pub writes_of : (s : List ℤ) (k v : ℕ) → Writes s k v → ((access s k).reads ≡ false) × ((access s k).value ≡ v)
+unfolding access is_minus_one natural
+writes_of s k v e = (ap is_minus_one e, ap natural e)
 
 -- A good touch that does not read writes a byte.
-pub write-says : (t s : List ℤ) (k : ℕ) → good t s k ≡ true → (access s k).reads ≡ false → Writes s k (access s k).value
+pub write_says : (t s : List ℤ) (k : ℕ) → good t s k ≡ true → (access s k).reads ≡ false → Writes s k (access s k).value
 unfolding access
-write-says t s k e f =
+write_says t s k e f =
     (within (word s k 3) 255 (omega arith)
-    (⊎-out (either (isMinusOne (word s k 3)) (leb (natural (word s k 3)) 255) (good-says t s k e).1.value))
+    (⊎-out (either (is_minus_one (word s k 3)) (leb (natural (word s k 3)) 255) (good_says t s k e).1.value))
     ).is
   where
-    ⊎-out : (isMinusOne (word s k 3) ≡ true) ⊎ (leb (natural (word s k 3)) 255 ≡ true) → natural (word s k 3) ≤ 255
+    ⊎-out : (is_minus_one (word s k 3) ≡ true) ⊎ (leb (natural (word s k 3)) 255 ≡ true) → natural (word s k 3) ≤ 255
     ⊎-out (inl q) = contrary q f
     ⊎-out (inr q) = leb-true _ _ q
 
 -- The byte on which a touch falls is the one that the run works on.
-pub falls : (o s : List ℤ) (k : ℕ) → byte_of o (access s k) ≡ fallsOn o s k
+pub falls : (o s : List ℤ) (k : ℕ) → byte_of o (access s k) ≡ falls_on o s k
 unfolding byte_of access
 falls o s k = refl
 
 module _ (g : ℕ) (t : List ℤ) (space : ℕ) (o s : List ℤ) (arena bytes : List ℕ) (h : 0 < g) (l : Lent g t space o s arena bytes) where
   plan : Passed g t space o
-  plan = passed-says g t space o l.accepted
+  plan = passed_says g t space o l.accepted
 
   sized : Sized t o s (length bytes)
   sized = record {
     whole = plan.checks.shaped.whole;
-    whole-script = l.whole;
+    whole_script = l.whole;
     few = plan.checks.shaped.few;
-    few-accesses = l.few;
-    proposed-all = plan.checks.shaped.roomy;
+    few_accesses = l.few;
+    proposed_all = plan.checks.shaped.roomy;
     roomy = l.room;
   }
 
   -- ---- (a)
 
-  row-good : (r : ℕ) → r < rows t → GoodRow g t r
-  row-good = (passed-acceptable g t space o h plan).table.each
+  row_good : (r : ℕ) → r < rows t → GoodRow g t r
+  row_good = (passed_acceptable g t space o h plan).table.each
 
-  few-rows : rows t ≤ greatestRows
-  few-rows = plan.checks.shaped.few
+  few_rows : rows t ≤ greatest_rows
+  few_rows = plan.checks.shaped.few
 
   -- past everything else, the touches decide
-  decided : touchesOf t space s (length arena) ≡ scriptOf g t space o s (length arena) (length bytes)
-  decided = touches-decide t o s (length bytes) g space (length arena) sized l.accepted
+  decided : touches_of t space s (length arena) ≡ script_of g t space o s (length arena) (length bytes)
+  decided = touches_decide t o s (length bytes) g space (length arena) sized l.accepted
 
-  all-good : ScriptDone g t space o s arena bytes → (k : ℕ) → k < count s → good t s k ≡ true
-  all-good d = (done-says t o s (length bytes) g space (length arena) (ap number_of d)).all-good
+  all_good : ScriptDone g t space o s arena bytes → (k : ℕ) → k < count s → good t s k ≡ true
+  all_good d = (done_says t o s (length bytes) g space (length arena) (ap number_of d)).all_good
 
-  good-script-done : GoodScript t s → ScriptDone g t space o s arena bytes
-  unfolding holdsBelow
-  good-script-done x =
+  good_script_done : GoodScript t s → ScriptDone g t space o s arena bytes
+  unfolding holds_below
+  good_script_done x =
       sym
-      (touches-passed t space s (length arena) l.long-enough
-      (ltb-false _ _ (none_found (badAccess t s) (count s) (λ k m. ap not (script-of g t s row-good few-rows x k m))))
+      (touches_passed t space s (length arena) l.long_enough
+      (ltb-false _ _ (none_found (bad_access t s) (count s) (λ k m. ap not (script_of_lem g t s row_good few_rows x k m))))
       ∙ decided)
 
   refuse : (GoodScript t s → ⊥) → RefusedWhole g t space o s arena bytes
-  unfolding holdsBelow
-  refuse f = go (holdsBelow (badAccess t s) (count s)) refl
+  unfolding holds_below
+  refuse f = go (holds_below (bad_access t s) (count s)) refl
     where
-      go : (b : Bool) → holdsBelow (badAccess t s) (count s) ≡ b → RefusedWhole g t space o s arena bytes
-      go false e = absurd (f (script-says g t s row-good few-rows (λ k m. not-false _ (none-holds (badAccess t s) (count s) e k m))))
+      go : (b : Bool) → holds_below (bad_access t s) (count s) ≡ b → RefusedWhole g t space o s arena bytes
+      go false e = absurd (f (script_says g t s row_good few_rows (λ k m. not-false _ (none_holds (bad_access t s) (count s) e k m))))
       go true e =
-          let a = sym (touch-refused t space s (length arena) l.long-enough (ltb-true _ _ e) ∙ decided) in
-          let kept = refusal-keeps g t space o s arena bytes (λ z. omega (arith, ap number_of a)) in
-          record { touch = _; lowest = lowest-bad g t s row-good few-rows e; answer = a; arena-kept = kept.0; bytes-kept = kept.1 }
+          let a = sym (touch_refused t space s (length arena) l.long_enough (ltb-true _ _ e) ∙ decided) in
+          let kept = refusal_keeps g t space o s arena bytes (λ z. omega (arith, ap number_of a)) in
+          record { touch = _; lowest = lowest_bad g t s row_good few_rows e; answer = a; arena_kept = kept.0; bytes_kept = kept.1 }
 
   -- ---- (b), (c), (d)
 
   module _ (d : ScriptDone g t space o s arena bytes) where
     reached : (k : ℕ) → k < count s → Reaches t (access s k)
-    reached k m = (good-says t s k (all-good d k m)).1
+    reached k m = (good_says t s k (all_good d k m)).1
 
-    within-space : (k : ℕ) → k < count s → fallsOn o s k < space
-    within-space k m =
-        omega (arith, falls o s k, below_end g t o h (access s k) (reached k m), end_needed g t o h (access s k) (reached k m), plan.within-space)
+    within_space : (k : ℕ) → k < count s → falls_on o s k < space
+    within_space k m =
+        omega (arith, falls o s k, below_end g t o h (access s k) (reached k m), end_needed g t o h (access s k) (reached k m), plan.within_space)
 
     bounds : (k r : ℕ) → k < count s → word s k 1 ≡ pos r
-        → (fallsOn o s k < end (bufferAt g t r (proposed o r))) × (end (bufferAt g t r (proposed o r)) ≤ proposedNeed g t o) × (proposedNeed g t o ≤ space)
+        → (falls_on o s k < end (buffer_at g t r (proposed o r))) × (end (buffer_at g t r (proposed o r)) ≤ proposed_need g t o) × (proposed_need g t o ≤ space)
     unfolding access natural
     bounds k r m e =
         let q : (access s k).row.0 ≡ r = ap natural e in
-        subst (λ (x : ℕ). (fallsOn o s k < end (bufferAt g t x (proposed o x))) × (end (bufferAt g t x (proposed o x)) ≤ proposedNeed g t o) × (proposedNeed g t o ≤ space)) q
-        (subst (λ (y : ℕ). y < end (bufferAt g t (access s k).row.0 (proposed o (access s k).row.0))) (falls o s k) (below_end g t o h (access s k) (reached k m)), end_needed g t o h (access s k) (reached k m), plan.within-space)
+        subst (λ (x : ℕ). (falls_on o s k < end (buffer_at g t x (proposed o x))) × (end (buffer_at g t x (proposed o x)) ≤ proposed_need g t o) × (proposed_need g t o ≤ space)) q
+        (subst (λ (y : ℕ). y < end (buffer_at g t (access s k).row.0 (proposed o (access s k).row.0))) (falls o s k) (below_end g t o h (access s k) (reached k m)), end_needed g t o h (access s k) (reached k m), plan.within_space)
 
     -- the byte that a read answers with, in the table in the end
-    answered : (k : ℕ) → k < count s → Reads s k → get_or (finalBytes g t space o s arena bytes) k 0 ≡ get_or (arenaAfter o s arena k) (fallsOn o s k) 0
+    answered : (k : ℕ) → k < count s → Reads s k → get_or (final_bytes g t space o s arena bytes) k 0 ≡ get_or (arena_after o s arena k) (falls_on o s k) 0
     answered k m r =
-        ap (λ (xs : List ℕ). get_or xs k 0) (done-bytes g t space o s arena bytes (ap number_of d))
-        ∙ replaced-at (answerByte o s arena) (count s) bytes 0 k m l.room
+        ap (λ (xs : List ℕ). get_or xs k 0) (done_bytes g t space o s arena bytes (ap number_of d))
+        ∙ replaced_at (answer_byte o s arena) (count s) bytes 0 k m l.room
         ∙ read_answer o s arena k (reads_of s k r)
-        ∙ ap (λ (x : ℕ). get_or (arenaAfter o s arena k) x 0) (falls o s k)
+        ∙ ap (λ (x : ℕ). get_or (arena_after o s arena k) x 0) (falls o s k)
 
-    last : (j k v : ℕ) → j < k → k < count s → Reads s k → Writes s j v → fallsOn o s j ≡ fallsOn o s k
-        → ((i w : ℕ) → j < i → i < k → Writes s i w → fallsOn o s i ≡ fallsOn o s k → ⊥) → get_or (finalBytes g t space o s arena bytes) k 0 ≡ v
+    last : (j k v : ℕ) → j < k → k < count s → Reads s k → Writes s j v → falls_on o s j ≡ falls_on o s k
+        → ((i w : ℕ) → j < i → i < k → Writes s i w → falls_on o s i ≡ falls_on o s k → ⊥) → get_or (final_bytes g t space o s arena bytes) k 0 ≡ v
     last j k v b m r w q none =
         answered k m r
-        ∙ stands o s arena k j (fallsOn o s k) b (writes-of s j v w).0 (falls o s j ∙ q) (omega (arith, within-space k m, l.long-enough))
-        (λ i lo hi e z. none i _ lo hi (write-says t s i (all-good d i (omega arith)) e) (sym (falls o s i) ∙ z))
-        ∙ (writes-of s j v w).1
+        ∙ stands o s arena k j (falls_on o s k) b (writes_of s j v w).0 (falls o s j ∙ q) (omega (arith, within_space k m, l.long_enough))
+        (λ i lo hi e z. none i _ lo hi (write_says t s i (all_good d i (omega arith)) e) (sym (falls o s i) ∙ z))
+        ∙ (writes_of s j v w).1
 
-    lent-byte : (k : ℕ) → k < count s → Reads s k → ((i w : ℕ) → i < k → Writes s i w → fallsOn o s i ≡ fallsOn o s k → ⊥)
-        → get_or (finalBytes g t space o s arena bytes) k 0 ≡ get_or arena (fallsOn o s k) 0
-    lent-byte k m r none =
+    lent_byte : (k : ℕ) → k < count s → Reads s k → ((i w : ℕ) → i < k → Writes s i w → falls_on o s i ≡ falls_on o s k → ⊥)
+        → get_or (final_bytes g t space o s arena bytes) k 0 ≡ get_or arena (falls_on o s k) 0
+    lent_byte k m r none =
         answered k m r
-        ∙ untouched o s arena k (fallsOn o s k) (λ i b e z. none i _ b (write-says t s i (all-good d i (omega arith)) e) (sym (falls o s i) ∙ z))
+        ∙ untouched o s arena k (falls_on o s k) (λ i b e z. none i _ b (write_says t s i (all_good d i (omega arith)) e) (sym (falls o s i) ∙ z))
 
     moments : (i j : ℕ) → i ≤ j → j < count s → (access s i).moment.0 ≤ (access s j).moment.0
-    moments i j b m = rising g t s row-good few-rows i j b (λ k q. all-good d k (omega arith))
+    moments i j b m = rising g t s row_good few_rows i j b (λ k q. all_good d k (omega arith))
 
     -- the row of touch k holds its byte from the moment of an earlier touch of that row to its own
     holding : (j k m : ℕ) → j ≤ k → k < count s → word s j 1 ≡ word s k 1 → (access s j).moment.0 ≤ m → m ≤ (access s k).moment.0
-        → Holds t o (access s k).row.0 (fallsOn o s k) m
+        → Holds t o (access s k).row.0 (falls_on o s k) m
     unfolding access
     holding j k m b c e lo hi =
         let x = reached k c in
@@ -219,25 +219,25 @@ module _ (g : ℕ) (t : List ℤ) (space : ℕ) (o s : List ℤ) (arena bytes : 
         record { within = x.named; begun = omega arith; lasting = omega (arith, x.lasting); from = omega arith; below = omega (arith, x.inside) }
 
     -- a touch between two of one row that falls on the later one's byte is of that row and index
-    one_byte : (i j k : ℕ) → j < i → i < k → k < count s → word s j 1 ≡ word s k 1 → fallsOn o s i ≡ fallsOn o s k → SameByte s i k
+    one_byte : (i j k : ℕ) → j < i → i < k → k < count s → word s j 1 ≡ word s k 1 → falls_on o s i ≡ falls_on o s k → SameByte s i k
     unfolding access
     one_byte i j k lo hi m e q =
         let x = living i (omega arith) in
         let y = living k m in
         let u = subst (λ (b : ℕ). Holds t o (access s i).row.0 b (access s i).moment.0) q (holding i i (access s i).moment.0 (omega arith) (omega arith) refl (omega arith) (omega arith)) in
         let v = holding j k (access s i).moment.0 (omega arith) m e (moments j i (omega arith) (omega arith)) (moments i k (omega arith) m) in
-        let same : natural (word s i 1) ≡ natural (word s k 1) = one-holder g t space o h plan u v in
+        let same : natural (word s i 1) ≡ natural (word s k 1) = one_holder g t space o h plan u v in
         let index : natural (word s i 2) ≡ natural (word s k 2) = omega (arith, q, ap (proposed o) same) in
         record {
-          row = one_word (word s i 1) (word s k 1) (natural-word x.names) (natural-word y.names) same;
-          index = one_word (word s i 2) (word s k 2) (natural-of (word s i 2) x.index-from) (natural-of (word s k 2) y.index-from) index;
+          row = one_word (word s i 1) (word s k 1) (natural_word x.names) (natural_word y.names) same;
+          index = one_word (word s i 2) (word s k 2) (natural_of (word s i 2) x.index_from) (natural_of (word s k 2) y.index_from) index;
         }
       where
         living : (i : ℕ) → i < count s → LivingByte t s i
-        living = (script-says g t s row-good few-rows (all-good d)).living
+        living = (script_says g t s row_good few_rows (all_good d)).living
 
     own : (j k v : ℕ) → j < k → k < count s → Reads s k → Writes s j v → SameByte s j k
-        → ((i w : ℕ) → j < i → i < k → Writes s i w → SameByte s i k → ⊥) → get_or (finalBytes g t space o s arena bytes) k 0 ≡ v
+        → ((i w : ℕ) → j < i → i < k → Writes s i w → SameByte s i k → ⊥) → get_or (final_bytes g t space o s arena bytes) k 0 ≡ v
     own j k v b m r w same none =
         last j k v b m r w (ap₂ (λ (x y : ℤ). proposed o (natural x) + natural y) same.row same.index)
         (λ i u lo hi z q. none i u lo hi z (one_byte i j k lo hi m same.row q))
@@ -246,14 +246,14 @@ module _ (g : ℕ) (t : List ℤ) (space : ℕ) (o s : List ℤ) (arena bytes : 
   pub demand3 : Demand3 g t space o s arena bytes
   demand3 =
       record {
-        done-exactly = (λ d. script-says g t s row-good few-rows (all-good d), good-script-done);
-        refused-whole = refuse;
-        inside-arena = bounds;
-        own-byte = own;
-        last-write = last;
-        byte-lent = lent-byte;
+        done_exactly = (λ d. script_says g t s row_good few_rows (all_good d), good_script_done);
+        refused_whole = refuse;
+        inside_arena = bounds;
+        own_byte = own;
+        last_write = last;
+        byte_lent = lent_byte;
       }
 
 -- And at the grid of the entry points, whose contracts are about the same definitions.
-pub demand3-at-grid : (t : List ℤ) (space : ℕ) (o s : List ℤ) (arena bytes : List ℕ) → Lent grid t space o s arena bytes → Demand3 grid t space o s arena bytes
-demand3-at-grid t space o s arena bytes l = demand3 grid t space o s arena bytes (omega arith) l
+pub demand3_at_grid : (t : List ℤ) (space : ℕ) (o s : List ℤ) (arena bytes : List ℕ) → Lent grid t space o s arena bytes → Demand3 grid t space o s arena bytes
+demand3_at_grid t space o s arena bytes l = demand3 grid t space o s arena bytes (omega arith) l

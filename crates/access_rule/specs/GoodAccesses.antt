@@ -3,7 +3,7 @@ use Rattle.std.specs.Prelude.{ℕ, ◌<◌, ◌≤◌, true, List, ◌≡◌, �
 use borrow.Author.Tests.{ltb-true, leb-true, lt-ltb, le-leb}
 use Rattle.bounded.specs.Boolean.{both, both_hold}
 use Rattle.request_table.specs.Table.{rows, request}
-use Rattle.access_rule.specs.Accesses.{access, momentBefore, allowed, reaches, good}
+use Rattle.access_rule.specs.Accesses.{access, moment_before, allowed, reaches, good}
 use Rattle.access_rule.specs.declared.Access.{Access}
 
 -- A touch names a row that is alive at its moment and a byte of it, and its value is allowed.
@@ -15,9 +15,9 @@ pub record Reaches (t : List ℤ) (a : Access) : Type 0 where
   pub value : allowed a ≡ true
 
 module _ (t : List ℤ) (a : Access) where
-  pub reaches-says : reaches t a ≡ true → Reaches t a
+  pub reaches_says : reaches t a ≡ true → Reaches t a
   unfolding reaches
-  reaches-says e =
+  reaches_says e =
       let n = both _ _ e in
       let l = both _ _ n.1 in
       let m = both _ _ l.0 in
@@ -32,10 +32,10 @@ module _ (t : List ℤ) (a : Access) where
 
 module _ (t s : List ℤ) (k : ℕ) where
   -- A good touch is not before the one in front of it, and reaches a byte.
-  pub good-says : good t s k ≡ true → (momentBefore s k ≤ (access s k).moment.0) × Reaches t (access s k)
+  pub good_says : good t s k ≡ true → (moment_before s k ≤ (access s k).moment.0) × Reaches t (access s k)
   unfolding good
-  good-says e = let x = both _ _ e in (leb-true _ _ x.0, reaches-says t (access s k) x.1)
+  good_says e = let x = both _ _ e in (leb-true _ _ x.0, reaches_says t (access s k) x.1)
 
-  pub good_of : momentBefore s k ≤ (access s k).moment.0 → Reaches t (access s k) → good t s k ≡ true
+  pub good_of : moment_before s k ≤ (access s k).moment.0 → Reaches t (access s k) → good t s k ≡ true
   unfolding good
   good_of l r = both_hold _ _ (le-leb _ _ l) (reaches_of t (access s k) r)

@@ -3,7 +3,7 @@ use Rattle.std.specs.Prelude.{ℕ, ◌<◌, ◌≤◌, true, List, ◌≡◌, �
 use Rattle.std.proofs.Common.{arith}
 use Rattle.access_rule.specs.Accesses.{count, access, allowed}
 use Rattle.access_rule.specs.Answers.{Done}
-use Rattle.access_rule.specs.GoodAccesses.{good-says}
+use Rattle.access_rule.specs.GoodAccesses.{good_says}
 use Rattle.access_rule.specs.Inside.{inside}
 use Rattle.access_rule.specs.Run.{byte_of}
 
@@ -16,7 +16,7 @@ pub record Ready (o s : List ℤ) (held room : ℕ) : Type 0 where
 -- Judged and found good, the script is ready.
 pub ready : (g : ℕ) (t : List ℤ) (space : ℕ) (o s : List ℤ) (held room : ℕ) → 0 < g → Done t o s room g space held → Ready o s held room
 ready g t space o s held room h d = record {
-  within = λ k l. let b = inside g t space o s h d.accepted k (d.all-good k l) in omega (arith, d.held-enough);
-  value = λ k l. (good-says t s k (d.all-good k l)).1.value;
+  within = λ k l. let b = inside g t space o s h d.accepted k (d.all_good k l) in omega (arith, d.held_enough);
+  value = λ k l. (good_says t s k (d.all_good k l)).1.value;
   roomy = d.sized.roomy;
 }

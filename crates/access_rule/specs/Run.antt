@@ -10,18 +10,18 @@ unfoldable pub byte_of : List ℤ → Access → ℕ
 byte_of o a = proposed o a.row.0 + a.index
 
 -- The arena as a touch leaves it: a read changes nothing, a write its own byte.
-unfoldable pub arenaBy : List ℤ → Access → List ℕ → List ℕ
-arenaBy o a arena = elim a.reads [ true ↦ arena | false ↦ set arena (byte_of o a) a.value ]
+unfoldable pub arena_by : List ℤ → Access → List ℕ → List ℕ
+arena_by o a arena = elim a.reads [ true ↦ arena | false ↦ set arena (byte_of o a) a.value ]
 
 -- "Each answer byte is the byte read or written".
-unfoldable pub byteBy : List ℤ → Access → List ℕ → ℕ
-byteBy o a arena = elim a.reads [ true ↦ get_or arena (byte_of o a) 0 | false ↦ a.value ]
+unfoldable pub byte_by : List ℤ → Access → List ℕ → ℕ
+byte_by o a arena = elim a.reads [ true ↦ get_or arena (byte_of o a) 0 | false ↦ a.value ]
 
 -- The arena as the first k touches leave it.
-unfoldable pub arenaAfter : List ℤ → List ℤ → List ℕ → ℕ → List ℕ
-arenaAfter o s arena zero = arena
-arenaAfter o s arena (suc k) = arenaBy o (access s k) (arenaAfter o s arena k)
+unfoldable pub arena_after : List ℤ → List ℤ → List ℕ → ℕ → List ℕ
+arena_after o s arena zero = arena
+arena_after o s arena (suc k) = arena_by o (access s k) (arena_after o s arena k)
 
 -- The answer byte of touch k, which finds the arena as the touches before left it.
-unfoldable pub answerByte : List ℤ → List ℤ → List ℕ → ℕ → ℕ
-answerByte o s arena k = byteBy o (access s k) (arenaAfter o s arena k)
+unfoldable pub answer_byte : List ℤ → List ℤ → List ℕ → ℕ → ℕ
+answer_byte o s arena k = byte_by o (access s k) (arena_after o s arena k)

@@ -6,32 +6,32 @@ use Rattle.std.proofs.Math.Path.{refl}
 use Rattle.std.proofs.Common.{◌∙◌, add-one}
 use Rattle.std.proofs.Math.ListN.{length, set, length-set}
 use Rattle.access_rule.specs.Accesses.{access}
-use Rattle.access_rule.specs.Run.{byte_of, arenaBy, byteBy, arenaAfter}
+use Rattle.access_rule.specs.Run.{byte_of, arena_by, byte_by, arena_after}
 use Rattle.access_rule.specs.declared.Access.{Access}
 
 module _ (o : List ℤ) (a : Access) (arena : List ℕ) where
   -- A touch that reads leaves the arena and answers its byte;
-  pub read-leaves : a.reads ≡ true → arena ≡ arenaBy o a arena
-  unfolding arenaBy
-  read-leaves e = rw (e, arenaBy)
+  pub read_leaves : a.reads ≡ true → arena ≡ arena_by o a arena
+  unfolding arena_by
+  read_leaves e = rw (e, arena_by)
 
-  pub read-answers : a.reads ≡ true → get_or arena (byte_of o a) 0 ≡ byteBy o a arena
-  unfolding byteBy byte_of
-  read-answers e = rw (e, byteBy)
+  pub read_answers : a.reads ≡ true → get_or arena (byte_of o a) 0 ≡ byte_by o a arena
+  unfolding byte_by byte_of
+  read_answers e = rw (e, byte_by)
 
   -- one that writes sets its byte to its value and answers the value.
-  pub write-sets : a.reads ≡ false → set arena (byte_of o a) a.value ≡ arenaBy o a arena
-  unfolding arenaBy byte_of
-  write-sets e = rw (e, arenaBy)
+  pub write_sets : a.reads ≡ false → set arena (byte_of o a) a.value ≡ arena_by o a arena
+  unfolding arena_by byte_of
+  write_sets e = rw (e, arena_by)
 
-  pub write-answers : a.reads ≡ false → a.value ≡ byteBy o a arena
-  unfolding byteBy
-  write-answers e = rw (e, byteBy)
+  pub write_answers : a.reads ≡ false → a.value ≡ byte_by o a arena
+  unfolding byte_by
+  write_answers e = rw (e, byte_by)
 
   -- Neither changes its length.
-  pub touch-length : length (arenaBy o a arena) ≡ length arena
-  unfolding arenaBy
-  touch-length = go a.reads
+  pub touch_length : length (arena_by o a arena) ≡ length arena
+  unfolding arena_by
+  touch_length = go a.reads
     where
       go : (b : Bool) → length {A = ℕ} (elim b [ true ↦ arena | false ↦ set arena (byte_of o a) a.value ]) ≡ length arena
       go true = refl
@@ -39,17 +39,17 @@ module _ (o : List ℤ) (a : Access) (arena : List ℕ) where
 
 module _ (o s : List ℤ) (arena : List ℕ) where
   -- Before the first touch.
-  pub arena-none : arenaAfter o s arena 0 ≡ arena
-  unfolding arenaAfter
-  arena-none = refl
+  pub arena_none : arena_after o s arena 0 ≡ arena
+  unfolding arena_after
+  arena_none = refl
 
   -- One touch more.
-  pub arena-more : (k : ℕ) → arenaBy o (access s k) (arenaAfter o s arena k) ≡ arenaAfter o s arena (k + 1)
-  unfolding arenaAfter
-  arena-more k = rw (add-one k)
+  pub arena_more : (k : ℕ) → arena_by o (access s k) (arena_after o s arena k) ≡ arena_after o s arena (k + 1)
+  unfolding arena_after
+  arena_more k = rw (add-one k)
 
   -- The arena stays as long as it was lent.
-  pub arena-length : (k : ℕ) → length (arenaAfter o s arena k) ≡ length arena
-  unfolding arenaAfter
-  arena-length zero = refl
-  arena-length (suc k) = touch-length o (access s k) (arenaAfter o s arena k) ∙ arena-length k
+  pub arena_length : (k : ℕ) → length (arena_after o s arena k) ≡ length arena
+  unfolding arena_after
+  arena_length zero = refl
+  arena_length (suc k) = touch_length o (access s k) (arena_after o s arena k) ∙ arena_length k

@@ -3,10 +3,10 @@
 ghost use Rattle.std.specs.Prelude.{◌<◌, ◌≤◌, true, ◌≡◌, length};
 ghost use Rattle.bounded.specs.Replaced.{replaced};
 ghost use Rattle.request_table.specs.Limits.{grid as gridOf};
-ghost use Rattle.access_rule.specs.Accesses.{count as count_of, allowed, greatestAccesses};
+ghost use Rattle.access_rule.specs.Accesses.{count as count_of, allowed, greatest_accesses};
 ghost use Rattle.access_rule.specs.Ready.{Ready};
-ghost use Rattle.access_rule.specs.Run.{byte_of, arenaBy, byteBy, arenaAfter, answerByte};
-ghost use Rattle.access_rule.specs.Script.{touchesOf, scriptOf, finalArena, finalBytes};
+ghost use Rattle.access_rule.specs.Run.{byte_of, arena_by, byte_by, arena_after, answer_byte};
+ghost use Rattle.access_rule.specs.Script.{touches_of, script_of, final_arena, final_bytes};
 
 use access_rule::Access;
 use accesses::ACCESS_WORDS;
@@ -14,8 +14,8 @@ use answer::Answer;
 
 // The checks 12 and 11: the arena, which is told with no place, and the touches.
 fn judge_accesses(requests: &[i32], space: u32, accesses: &[i32], held: usize) -> Answer
-    requires { count_of accesses.now ≤ greatestAccesses }
-    ensures { result ≡ touchesOf requests.now space accesses.now held }
+    requires { count_of accesses.now ≤ greatest_accesses }
+    ensures { result ≡ touches_of requests.now space accesses.now held }
 {
     let bad = accesses::lowest_bad(requests, accesses);
     let place = bad as u32;
@@ -40,7 +40,7 @@ fn judge(
     held: usize,
     room: usize,
 ) -> Answer
-    ensures { result ≡ scriptOf grid requests.now space offsets.now accesses.now held room }
+    ensures { result ≡ script_of grid requests.now space offsets.now accesses.now held room }
 {
     let lengths = accesses::check_lengths(requests, offsets, accesses, room);
     if lengths.number != Answer::DONE {
@@ -63,8 +63,8 @@ fn judge(
 fn touch(offsets: &[i32], access: Access, arena: &mut [u8]) -> u8
     requires access_in_bounds { byte_of offsets.now access < length arena.old }
     requires access_value { allowed access ≡ true }
-    ensures arena { arena.new ≡ arenaBy offsets.now access arena.old }
-    ensures byte { result ≡ byteBy offsets.now access arena.old }
+    ensures arena { arena.new ≡ arena_by offsets.now access arena.old }
+    ensures byte { result ≡ byte_by offsets.now access arena.old }
 {
     let row = access.row;
     let offset = proposals::proposed_at(offsets, row);
@@ -81,8 +81,8 @@ fn touch(offsets: &[i32], access: Access, arena: &mut [u8]) -> u8
 // Performs every touch, in script order: each finds the arena as the one before left it.
 fn perform(offsets: &[i32], accesses: &[i32], arena: &mut [u8], bytes: &mut [u8])
     requires { Ready offsets.now accesses.now (length arena.old) (length bytes.old) }
-    ensures arena { arena.new ≡ arenaAfter offsets.now accesses.now arena.old (count_of accesses.now) }
-    ensures bytes { bytes.new ≡ replaced (answerByte offsets.now accesses.now arena.old) (count_of accesses.now) bytes.old }
+    ensures arena { arena.new ≡ arena_after offsets.now accesses.now arena.old (count_of accesses.now) }
+    ensures bytes { bytes.new ≡ replaced (answer_byte offsets.now accesses.now arena.old) (count_of accesses.now) bytes.old }
 {
     let n = accesses.len() / ACCESS_WORDS;
     let mut k = 0;
@@ -103,9 +103,9 @@ pub fn run(
     arena: &mut [u8],
     bytes: &mut [u8],
 ) -> Answer
-    ensures answer { result ≡ scriptOf gridOf requests.now space offsets.now accesses.now (length arena.old) (length bytes.old) }
-    ensures arena { arena.new ≡ finalArena gridOf requests.now space offsets.now accesses.now arena.old bytes.old }
-    ensures bytes { bytes.new ≡ finalBytes gridOf requests.now space offsets.now accesses.now arena.old bytes.old }
+    ensures answer { result ≡ script_of gridOf requests.now space offsets.now accesses.now (length arena.old) (length bytes.old) }
+    ensures arena { arena.new ≡ final_arena gridOf requests.now space offsets.now accesses.now arena.old bytes.old }
+    ensures bytes { bytes.new ≡ final_bytes gridOf requests.now space offsets.now accesses.now arena.old bytes.old }
 {
     let answer = judge(
         requests::GRID,

@@ -1,9 +1,9 @@
 // Reading a touch script (document 01, "The desk's order of checks"): its touches, whether a touch is good, the lowest that is not; and the checks 1 to 3
 // of the script's tables. The document's touch is an access here. All is total: any script, any touch, any tables.
 ghost use Rattle.std.specs.Prelude.{◌&&◌, ◌≡◌, leb};
-ghost use Rattle.bounded.specs.First.{firstIn};
-ghost use Rattle.access_rule.specs.Accesses.{count as count_of, access, reaches, badAccess};
-ghost use Rattle.access_rule.specs.Script.{lengthsOf};
+ghost use Rattle.bounded.specs.First.{first_in};
+ghost use Rattle.access_rule.specs.Accesses.{count as count_of, access, reaches, bad_access};
+ghost use Rattle.access_rule.specs.Script.{lengths_of};
 
 use access_rule::Access;
 use answer::Answer;
@@ -61,7 +61,7 @@ fn is_good(table: &[i32], before: Moment, access: Access) -> bool
 
 // The lowest bad touch, else the number of touches. Each moment is compared with the one before.
 pub fn lowest_bad(table: &[i32], accesses: &[i32]) -> usize
-    ensures { result ≡ firstIn (badAccess table.now accesses.now) 0 (count_of accesses.now) }
+    ensures { result ≡ first_in (bad_access table.now accesses.now) 0 (count_of accesses.now) }
 {
     let n = accesses.len() / ACCESS_WORDS;
     let mut before = Moment(0);
@@ -79,7 +79,7 @@ pub fn lowest_bad(table: &[i32], accesses: &[i32]) -> usize
 
 // The checks 1 to 3, each for either of two tables.
 pub fn check_lengths(requests: &[i32], offsets: &[i32], accesses: &[i32], room: usize) -> Answer
-    ensures { result ≡ lengthsOf requests.now offsets.now accesses.now room }
+    ensures { result ≡ lengths_of requests.now offsets.now accesses.now room }
 {
     let rows = requests.len() / request_table::ROW_WORDS;
     let count = accesses.len() / ACCESS_WORDS;

@@ -2,16 +2,16 @@
 use Rattle.std.proofs.Common.{◌≡◌, ℕ, zero, suc, ◌-◌, ◌*◌, ◌/◌, ◌%◌, ◌^◌, ◌<◌, ◌≤◌, Bool, true, false, ◌&&◌, eqb, leb, ◌⊎◌, refl, ap, inl, inr, arith, eq-eqb, eqb-true}
 use native.Mathlib.Nat.{mod_self, two-pow-succ}
 use lib.Bits.{bit_and, and_step, and_self, and_mask}
-use Rattle.alignment.specs.Alignments.{allowed, allowed-says, allowed-some}
-use Rattle.alignment.specs.Powers.{PowerOfTwo, power-says, power-of}
-use Rattle.bounded.specs.Boolean.{lt-or-le, same_test}
+use Rattle.alignment.specs.Alignments.{allowed, allowed_says, allowed_some}
+use Rattle.alignment.specs.Powers.{PowerOfTwo, power_says, power_of}
+use Rattle.bounded.specs.Boolean.{lt_or_le, same_test}
 
-no-shared-bit : (n : ℕ) → PowerOfTwo n → bit_and n (n - 1) ≡ 0
-no-shared-bit n p = rw p.is (rw (and_mask (2 ^ p.exponent) p.exponent) (mod_self (2 ^ p.exponent)))
+no_shared_bit : (n : ℕ) → PowerOfTwo n → bit_and n (n - 1) ≡ 0
+no_shared_bit n p = rw p.is (rw (and_mask (2 ^ p.exponent) p.exponent) (mod_self (2 ^ p.exponent)))
 
-is-power : (bound n : ℕ) → n ≤ bound → 0 < n → bit_and n (n - 1) ≡ 0 → PowerOfTwo n
-is-power zero n l h e = absurd (omega arith)
-is-power (suc bound) n l h e = go (lt-or-le 0 (n % 2)) (is-power bound (n / 2))
+is_power : (bound n : ℕ) → n ≤ bound → 0 < n → bit_and n (n - 1) ≡ 0 → PowerOfTwo n
+is_power zero n l h e = absurd (omega arith)
+is_power (suc bound) n l h e = go (lt_or_le 0 (n % 2)) (is_power bound (n / 2))
   where
     step : bit_and (n / 2) ((n - 1) / 2) * 2 ≡ 0
     step = omega (arith, and_step n (n - 1))
@@ -29,18 +29,18 @@ is-power (suc bound) n l h e = go (lt-or-le 0 (n % 2)) (is-power bound (n / 2))
         record { exponent = suc p.exponent; is = omega (arith, p.is, two-pow-succ p.exponent) }
 
 -- The test by bits is the definition's.
-pub allowed-by-bits : (g a : ℕ) → 0 < a → eqb (bit_and a (a - 1)) 0 && leb a g ≡ allowed g a
+pub allowed_by_bits : (g a : ℕ) → 0 < a → eqb (bit_and a (a - 1)) 0 && leb a g ≡ allowed g a
 unfolding allowed
-allowed-by-bits g a h =
+allowed_by_bits g a h =
     ap (λ b. b && leb a g)
     (same_test _ _
-    (λ e. power-of a (is-power a a (omega arith) h (eqb-true _ _ e)))
-    (λ e. eq-eqb _ _ (no-shared-bit a (power-says a e))))
+    (λ e. power_of a (is_power a a (omega arith) h (eqb-true _ _ e)))
+    (λ e. eq-eqb _ _ (no_shared_bit a (power_says a e))))
 
 -- No alignment is 0.
-pub none-at-0 : (g a : ℕ) → a ≡ 0 → false ≡ allowed g a
-none-at-0 g a z = go (allowed g a) refl
+pub none_at_0 : (g a : ℕ) → a ≡ 0 → false ≡ allowed g a
+none_at_0 g a z = go (allowed g a) refl
   where
     go : (b : Bool) → allowed g a ≡ b → false ≡ b
-    go true e = absurd (omega (arith, allowed-some g a (allowed-says g a e)))
+    go true e = absurd (omega (arith, allowed_some g a (allowed_says g a e)))
     go false e = refl

@@ -2,16 +2,16 @@
 use Rattle.std.proofs.Common.{◌≡◌, ℕ, ◌-◌, ◌%◌, sym, ◌∙◌, mul-zero}
 use native.Mathlib.Nat.{mod-zero, zero-sub}
 use Rattle.alignment.specs.Alignments.{loss}
-use Rattle.alignment.specs.Rounding.{roundedUp, roundedDown}
+use Rattle.alignment.specs.Rounding.{rounded_up, rounded_down}
 
-pub up-to-none : (g n : ℕ) → g ≡ 0 → 0 ≡ roundedUp g n
-unfolding roundedUp
-up-to-none g n z = rw (z, mul-zero)
+pub up_to_none : (g n : ℕ) → g ≡ 0 → 0 ≡ rounded_up g n
+unfolding rounded_up
+up_to_none g n z = rw (z, mul-zero)
 
-pub down-to-none : (g n : ℕ) → g ≡ 0 → 0 ≡ roundedDown g n
-unfolding roundedDown
-down-to-none g n z = rw (z, mul-zero)
+pub down_to_none : (g n : ℕ) → g ≡ 0 → 0 ≡ rounded_down g n
+unfolding rounded_down
+down_to_none g n z = rw (z, mul-zero)
 
-pub none-lost : (g start : ℕ) → g ≡ 0 → 0 ≡ loss g start
+pub none_lost : (g start : ℕ) → g ≡ 0 → 0 ≡ loss g start
 unfolding loss
-none-lost g start z = rw z (sym (mod-zero (0 - start % 0) ∙ zero-sub (start % 0)))
+none_lost g start z = rw z (sym (mod-zero (0 - start % 0) ∙ zero-sub (start % 0)))

@@ -5,9 +5,9 @@ use Rattle.std.proofs.Common.{inl, inr, ⊎_elim, ◌∙◌, leb-true, le-leb}
 use Rattle.std.proofs.Math.Path.{ap}
 use Rattle.std.proofs.Math.Nat.{div-add-mod', mod-lt, mod-eq_of_lt, mod_self, mul-mod_left, sub-zero, one-le-pow}
 use native.Mathlib.Omega.{arith}
-use Rattle.bounded.specs.Boolean.{both, both_hold, lt-or-le}
-use Rattle.alignment.specs.Rounding.{multiples-apart}
-use Rattle.alignment.specs.Powers.{isPowerOfTwo, PowerOfTwo, power-says, power-of, power-some}
+use Rattle.bounded.specs.Boolean.{both, both_hold, lt_or_le}
+use Rattle.alignment.specs.Rounding.{multiples_apart}
+use Rattle.alignment.specs.Powers.{is_power_of_two, PowerOfTwo, power_says, power_of, power_some}
 
 -- "Opening at start s with length L loses (16 − s mod 16) mod 16 bytes".
 unfoldable pub loss : ℕ → ℕ → ℕ
@@ -15,7 +15,7 @@ loss g start = (g - start % g) % g
 
 -- The alignments that are allowed: the powers of two up to the grid; at 16 they are "1, 2, 4, 8 or 16".
 unfoldable pub allowed : ℕ → ℕ → Bool
-allowed g alignment = isPowerOfTwo alignment && nat_le alignment g
+allowed g alignment = is_power_of_two alignment && nat_le alignment g
 
 -- An alignment that is allowed, in plain terms.
 pub record Allowed (g alignment : ℕ) : Type 0 where
@@ -23,22 +23,22 @@ pub record Allowed (g alignment : ℕ) : Type 0 where
   pub within : alignment ≤ g
 
 -- What the test says,
-pub allowed-says : (g a : ℕ) → allowed g a ≡ true → Allowed g a
+pub allowed_says : (g a : ℕ) → allowed g a ≡ true → Allowed g a
 unfolding allowed
-allowed-says g a e = let x = both (isPowerOfTwo a) (nat_le a g) e in record { power = power-says a x.0; within = leb-true a g x.1 }
+allowed_says g a e = let x = both (is_power_of_two a) (nat_le a g) e in record { power = power_says a x.0; within = leb-true a g x.1 }
 
 -- and the other way.
 pub allowed_of : (g a : ℕ) → Allowed g a → allowed g a ≡ true
 unfolding allowed
-allowed_of g a p = both_hold _ _ (power-of a p.power) (le-leb _ _ p.within)
+allowed_of g a p = both_hold _ _ (power_of a p.power) (le-leb _ _ p.within)
 
 -- It is above 0.
-pub allowed-some : (g a : ℕ) → Allowed g a → 0 < a
-allowed-some g a p = power-some a p.power
+pub allowed_some : (g a : ℕ) → Allowed g a → 0 < a
+allowed_some g a p = power_some a p.power
 
 -- Number 14: "alignment not 1, 2, 4, 8 or 16".
-pub allowed-at-16 : (a : ℕ) → Allowed 16 a ↔ ((a ≡ 1) ⊎ (a ≡ 2) ⊎ (a ≡ 4) ⊎ (a ≡ 8) ⊎ (a ≡ 16))
-allowed-at-16 a = (λ p. one_of p.power.exponent p.power.is p.within, of)
+pub allowed_at_16 : (a : ℕ) → Allowed 16 a ↔ ((a ≡ 1) ⊎ (a ≡ 2) ⊎ (a ≡ 4) ⊎ (a ≡ 8) ⊎ (a ≡ 16))
+allowed_at_16 a = (λ p. one_of p.power.exponent p.power.is p.within, of)
   where
     one_of : (k : ℕ) → a ≡ 2 ^ k → a ≤ 16 → (a ≡ 1) ⊎ (a ≡ 2) ⊎ (a ≡ 4) ⊎ (a ≡ 8) ⊎ (a ≡ 16)
     one_of zero e l = inl e
@@ -61,14 +61,14 @@ allowed-at-16 a = (λ p. one_of p.power.exponent p.power.is p.within, of)
 -- ---- the loss
 
 module _ (g start : ℕ) where
-  loss-less : 0 < g → loss g start < g
+  loss_less : 0 < g → loss g start < g
   unfolding loss
-  loss-less h = mod-lt (g - start % g) h
+  loss_less h = mod-lt (g - start % g) h
 
   -- Behind what is lost the next multiple starts,
-  pub loss-reaches : 0 < g → (start + loss g start) % g ≡ 0
+  pub loss_reaches : 0 < g → (start + loss g start) % g ≡ 0
   unfolding loss
-  loss-reaches h = go (lt-or-le 0 (start % g))
+  loss_reaches h = go (lt_or_le 0 (start % g))
     where
       go : (0 < start % g) ⊎ (start % g ≤ 0) → (start + (g - start % g) % g) % g ≡ 0
       go (inl l) =
@@ -81,9 +81,9 @@ module _ (g start : ℕ) where
           ap (λ (n : ℕ). n % g) e ∙ z
 
   -- and losing less would not reach one.
-  pub loss-least : 0 < g → (other : ℕ) → (start + other) % g ≡ 0 → loss g start ≤ other
-  loss-least h other e =
+  pub loss_least : 0 < g → (other : ℕ) → (start + other) % g ≡ 0 → loss g start ≤ other
+  loss_least h other e =
       ⊎_elim
-      (λ x. omega (arith, loss-less h, multiples-apart g (start + other) (start + loss g start) e (loss-reaches h) (omega arith)))
+      (λ x. omega (arith, loss_less h, multiples_apart g (start + other) (start + loss g start) e (loss_reaches h) (omega arith)))
       (λ x. x)
-      (lt-or-le other (loss g start))
+      (lt_or_le other (loss g start))

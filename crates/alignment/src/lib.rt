@@ -2,12 +2,12 @@
 // whoever rounds. All is total: any grid, any number; no number is a multiple of a grid of 0 but 0. Rounding to 16, the grid of every plan and the base
 // alignment of an arena, goes by bits, in at most two operations: 15 is all the bits below 16. Only another grid takes a division.
 ghost use Rattle.std.specs.Prelude.{◌≡◌};
-ghost use Rattle.alignment.specs.Rounding.{roundedUp, roundedDown};
+ghost use Rattle.alignment.specs.Rounding.{rounded_up, rounded_down};
 ghost use Rattle.alignment.specs.Alignments.{loss, allowed};
 
 // The least multiple of the grid that is at least the number.
 pub fn round_up(grid: u32, number: u32) -> u64
-    ensures { result ≡ roundedUp grid number }
+    ensures { result ≡ rounded_up grid number }
 {
     match grid {
         16 => (number as u64 + 15) & !15,
@@ -18,7 +18,7 @@ pub fn round_up(grid: u32, number: u32) -> u64
 
 // The greatest multiple of the grid that is at most the number.
 pub fn round_down(grid: u32, number: u32) -> u32
-    ensures { result ≡ roundedDown grid number }
+    ensures { result ≡ rounded_down grid number }
 {
     match grid {
         16 => number & !15,

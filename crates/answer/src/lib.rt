@@ -1,6 +1,6 @@
 // Document 01, "Answer numbers": an answer is a number, two places a and b, and a need; each is 0 unless the document names it.
 ghost use Rattle.std.specs.Prelude.{◌≡◌};
-ghost use Rattle.answer.specs.Answer.{doneWith, doneAt, refused as refusedBy, refusedAt, refusedPair, refusedNeed};
+ghost use Rattle.answer.specs.Answer.{done_with, done_at, refused as refusedBy, refused_at, refused_pair, refused_need};
 
 #[derive(Drop)]
 pub struct Answer {
@@ -61,7 +61,7 @@ impl Answer {
 
     // Done, with the need of the plan.
     pub fn done(need: u64) -> Answer
-        ensures { result ≡ doneWith need }
+        ensures { result ≡ done_with need }
     {
         Answer {
             number: Answer::DONE,
@@ -73,7 +73,7 @@ impl Answer {
 
     // Done, with the start of what was allocated.
     pub fn done_at(start: u32) -> Answer
-        ensures { result ≡ doneAt start }
+        ensures { result ≡ done_at start }
     {
         let mut answer = Answer::done(0);
         answer.a = start;
@@ -94,7 +94,7 @@ impl Answer {
 
     // Refused for one row, touch, tensor or use.
     pub fn refused_at(number: u32, a: u32) -> Answer
-        ensures { result ≡ refusedAt number a }
+        ensures { result ≡ refused_at number a }
     {
         let mut answer = Answer::refused(number);
         answer.a = a;
@@ -103,7 +103,7 @@ impl Answer {
 
     // Refused for two rows.
     pub fn refused_pair(number: u32, a: u32, b: u32) -> Answer
-        ensures { result ≡ refusedPair number a b }
+        ensures { result ≡ refused_pair number a b }
     {
         let mut answer = Answer::refused_at(number, a);
         answer.b = b;
@@ -112,7 +112,7 @@ impl Answer {
 
     // Refused for a need, which is carried.
     pub fn refused_need(number: u32, need: u64) -> Answer
-        ensures { result ≡ refusedNeed number need }
+        ensures { result ≡ refused_need number need }
     {
         let mut answer = Answer::refused(number);
         answer.need = need;

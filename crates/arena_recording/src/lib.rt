@@ -1,10 +1,10 @@
 // Persistent allocations through a ledger that records them by kind (document 02, order 4). Sections and ledger go in by value and come back beside the
 // answer. The allocation itself is the sections' own. Any ledger may be handed in: one that does not agree with the sections is refused by number 13.
 ghost use Rattle.std.specs.Prelude.{◌-◌, ◌≡◌};
-ghost use Rattle.arena_sections.specs.Sections.{baseAlignment};
+ghost use Rattle.arena_sections.specs.Sections.{base_alignment};
 ghost use Rattle.recording_rule.specs.Cases.{Recordable};
-ghost use Rattle.recording_rule.specs.Ledger.{withKeepOf};
-ghost use Rattle.recording_rule.specs.Recording.{recordedOf, recordingOf};
+ghost use Rattle.recording_rule.specs.Ledger.{with_keep_of};
+ghost use Rattle.recording_rule.specs.Recording.{recorded_of, recording_of};
 
 use answer::Answer;
 use arena_sections::{Outcome, Sections};
@@ -13,7 +13,7 @@ use recording_rule::{Ledger, Recording};
 // The sections' own allocation, with what the ledger refuses told in its place: 13 behind the sections' own 13, and 25 and 2 between 14 and 15. The last
 // three tests are made before the first is told, so that their order can be read off.
 fn judge(sections: Sections, ledger: Ledger, kind: u32, size: u32, alignment: u32) -> Outcome
-    ensures { result ≡ recordedOf baseAlignment sections ledger kind size alignment }
+    ensures { result ≡ recorded_of base_alignment sections ledger kind size alignment }
 {
     let allocation = sections.allocate_persistent(size, alignment);
     let told = allocation.answer.number;
@@ -42,7 +42,7 @@ fn judge(sections: Sections, ledger: Ledger, kind: u32, size: u32, alignment: u3
 // The ledger with one allocation more of a kind, which took its size and gap from the tail.
 fn with_allocation(ledger: Ledger, kind: u32, size: u32, taken: u32) -> Ledger
     requires { Recordable ledger kind size taken }
-    ensures { result ≡ withKeepOf ledger kind size (taken - size) }
+    ensures { result ≡ with_keep_of ledger kind size (taken - size) }
 {
     let mut recorded = ledger_entries::of_kind(ledger, kind);
     recorded.requested += size;
@@ -63,7 +63,7 @@ pub fn allocate_persistent(
     size: u32,
     alignment: u32,
 ) -> Recording
-    ensures { result ≡ recordingOf baseAlignment sections ledger kind size alignment }
+    ensures { result ≡ recording_of base_alignment sections ledger kind size alignment }
 {
     let outcome = judge(sections, ledger, kind, size, alignment);
     let answer = outcome.answer;

@@ -4,7 +4,7 @@
 use Rattle.std.specs.Prelude.{ℕ, ◌+◌, ◌<◌, ◌≤◌, max, true, false, List, [], ◌∷◌, eqb}
 use Rattle.answer.specs.Answer.{done}
 use Rattle.answer.specs.declared.Answer.{Answer}
-use Rattle.arena_sections.specs.Sections.{gapBelow, openOf, persistentOf, tempOf, resetOf, head_of}
+use Rattle.arena_sections.specs.Sections.{gap_below, open_of, persistent_of, temp_of, reset_of, head_of}
 use Rattle.arena_sections.specs.declared.Outcome.{Outcome}
 use Rattle.arena_sections.specs.declared.Sections.{Sections}
 
@@ -12,22 +12,22 @@ use Rattle.arena_sections.specs.declared.Sections.{Sections}
 
 -- An operation with its arguments: an allocation's size and alignment, the head's length.
 pub data Operation : Type 0 where
-  allocatePersistent : ℕ → ℕ → Operation
-  allocateTemp : ℕ → ℕ → Operation
-  resetTemp : Operation
-  setHead : ℕ → Operation
+  allocate_persistent : ℕ → ℕ → Operation
+  allocate_temp : ℕ → ℕ → Operation
+  reset_temp : Operation
+  set_head : ℕ → Operation
 
 -- What the operation answers and hands back.
-abbrev pub outcomeOf : ℕ → Sections → Operation → Outcome
-outcomeOf g s (allocatePersistent size alignment) = persistentOf g s size alignment
-outcomeOf g s (allocateTemp size alignment) = tempOf g s size alignment
-outcomeOf g s resetTemp = resetOf s
-outcomeOf g s (setHead length) = head_of s length
+abbrev pub outcome_of : ℕ → Sections → Operation → Outcome
+outcome_of g s (allocate_persistent size alignment) = persistent_of g s size alignment
+outcome_of g s (allocate_temp size alignment) = temp_of g s size alignment
+outcome_of g s reset_temp = reset_of s
+outcome_of g s (set_head length) = head_of s length
 
 -- The state after all operations of a list.
 unfoldable pub after : ℕ → Sections → List Operation → Sections
 after g s [] = s
-after g s (op ∷ ops) = after g (outcomeOf g s op).sections ops
+after g s (op ∷ ops) = after g (outcome_of g s op).sections ops
 
 -- An operation and its answer: what an auditor sees.
 pub record Event : Type 0 where
@@ -37,7 +37,7 @@ pub record Event : Type 0 where
 -- The events of a list of operations.
 unfoldable pub events : ℕ → Sections → List Operation → List Event
 events g s [] = []
-events g s (op ∷ ops) = record { operation = op; answer = (outcomeOf g s op).answer } ∷ events g (outcomeOf g s op).sections ops
+events g s (op ∷ ops) = record { operation = op; answer = (outcome_of g s op).answer } ∷ events g (outcome_of g s op).sections ops
 
 -- ---- spans
 
@@ -52,12 +52,12 @@ pub record Kept : Type 0 where
   pub gap : ℕ
 
 -- No span: what stands past the end of a list of them.
-abbrev pub noSpan : Span
-noSpan = record { start = 0; size = 0 }
+abbrev pub no_span : Span
+no_span = record { start = 0; size = 0 }
 
 -- No kept span.
-abbrev pub noKept : Kept
-noKept = record { span = noSpan; gap = 0 }
+abbrev pub no_kept : Kept
+no_kept = record { span = no_span; gap = 0 }
 
 -- The span has the byte.
 pub record Has (x : Span) (byte : ℕ) : Type 0 where
@@ -94,18 +94,18 @@ pub record Held : Type 0 where
   pub head : ℕ
 
 -- At first it holds nothing.
-abbrev pub nothingHeld : Held
-nothingHeld = record { kept = []; borrowed = []; head = 0 }
+abbrev pub nothing_held : Held
+nothing_held = record { kept = []; borrowed = []; head = 0 }
 
 -- The tail that the keeps leave: where the newest one starts, or the usable length.
-abbrev pub tailBy : ℕ → List Kept → ℕ
-tailBy usable [] = usable
-tailBy usable (k ∷ ks) = k.span.start
+abbrev pub tail_by : ℕ → List Kept → ℕ
+tail_by usable [] = usable
+tail_by usable (k ∷ ks) = k.span.start
 
 -- Where the borrowed spans end: where the newest one does. Where that is below the head's end, it has no byte, and they end with the head.
-abbrev pub tempBy : ℕ → List Span → ℕ
-tempBy head [] = head
-tempBy head (x ∷ xs) = max head (x.start + x.size)
+abbrev pub temp_by : ℕ → List Span → ℕ
+temp_by head [] = head
+temp_by head (x ∷ xs) = max head (x.start + x.size)
 
 -- What an operation does to what is held. Whatever is added to the sections does some of these, or a new one.
 pub data Effect : Type 0 where
@@ -113,19 +113,19 @@ pub data Effect : Type 0 where
   keeps : Kept → Effect
   borrows : Span → Effect
   resets : Effect
-  setsHead : ℕ → Effect
+  sets_head : ℕ → Effect
 
 -- The effect of an accepted operation, by the tail before it and the start that it answered: "the gap being (tail before − size) mod alignment".
-abbrev pub effectBy : ℕ → Operation → ℕ → Effect
-effectBy tail (allocatePersistent size alignment) start =
-    keeps (record { span = record { start = start; size = size }; gap = gapBelow tail size alignment })
-effectBy tail (allocateTemp size alignment) start = borrows (record { start = start; size = size })
-effectBy tail resetTemp start = resets
-effectBy tail (setHead length) start = setsHead length
+abbrev pub effect_by : ℕ → Operation → ℕ → Effect
+effect_by tail (allocate_persistent size alignment) start =
+    keeps (record { span = record { start = start; size = size }; gap = gap_below tail size alignment })
+effect_by tail (allocate_temp size alignment) start = borrows (record { start = start; size = size })
+effect_by tail reset_temp start = resets
+effect_by tail (set_head length) start = sets_head length
 
 -- The effect of an event: a refusal has none.
 abbrev pub effect_of : ℕ → Event → Effect
-effect_of tail e = elim (eqb e.answer.number done) [ true ↦ effectBy tail e.operation e.answer.a | false ↦ nothing ]
+effect_of tail e = elim (eqb e.answer.number done) [ true ↦ effect_by tail e.operation e.answer.a | false ↦ nothing ]
 
 -- What is held after an effect.
 abbrev pub applied : Effect → Held → Held
@@ -133,23 +133,23 @@ applied nothing h = h
 applied (keeps k) h = record { kept = k ∷ h.kept; borrowed = h.borrowed; head = h.head }
 applied (borrows b) h = record { kept = h.kept; borrowed = b ∷ h.borrowed; head = h.head }
 applied resets h = record { kept = h.kept; borrowed = []; head = h.head }
-applied (setsHead length) h = record { kept = h.kept; borrowed = h.borrowed; head = length }
+applied (sets_head length) h = record { kept = h.kept; borrowed = h.borrowed; head = length }
 
 -- What is held after the events, in an arena of a usable length.
-unfoldable pub heldAfter : ℕ → Held → List Event → Held
-heldAfter usable h [] = h
-heldAfter usable h (e ∷ es) = heldAfter usable (applied (effect_of (tailBy usable h.kept) e) h) es
+unfoldable pub held_after : ℕ → Held → List Event → Held
+held_after usable h [] = h
+held_after usable h (e ∷ es) = held_after usable (applied (effect_of (tail_by usable h.kept) e) h) es
 
 -- ---- from an opening on
 
 -- The state that an opening hands back.
 abbrev pub opened : ℕ → ℕ → ℕ → Sections
-opened g start length = (openOf g start length).sections
+opened g start length = (open_of g start length).sections
 
 -- The state after an opening and operations.
-abbrev pub stateAfter : ℕ → ℕ → ℕ → List Operation → Sections
-stateAfter g start length ops = after g (opened g start length) ops
+abbrev pub state_after : ℕ → ℕ → ℕ → List Operation → Sections
+state_after g start length ops = after g (opened g start length) ops
 
 -- What is held after them.
 abbrev pub held : ℕ → ℕ → ℕ → List Operation → Held
-held g start length ops = heldAfter (opened g start length).usable nothingHeld (events g (opened g start length) ops)
+held g start length ops = held_after (opened g start length).usable nothing_held (events g (opened g start length) ops)

@@ -2,16 +2,16 @@
 // back beside the answer. Any state may be handed in: one that is not valid is refused by number 13, and a refusal hands the same state back.
 ghost use Rattle.std.specs.Prelude.{◌≡◌};
 ghost use Rattle.arena_sections.specs.Sections.{
-  baseAlignment,
+  base_alignment,
   fresh as freshState,
   valid,
-  refusedOutcome,
-  doneOutcome,
-  openOf,
-  allocationOf,
-  persistentOf,
-  tempOf,
-  resetOf,
+  refused_outcome,
+  done_outcome,
+  open_of,
+  allocation_of,
+  persistent_of,
+  temp_of,
+  reset_of,
   head_of,
 };
 
@@ -36,7 +36,7 @@ pub struct Outcome {
 impl Outcome {
     // Refused by a number; this state is handed back. Whoever refuses before the sections do makes its outcome by this too.
     pub fn refused(number: u32, sections: Sections) -> Outcome
-        ensures { result ≡ refusedOutcome number sections }
+        ensures { result ≡ refused_outcome number sections }
     {
         Outcome {
             answer: Answer::refused(number),
@@ -46,7 +46,7 @@ impl Outcome {
 
     // Done, with the start of what was allocated and the next state.
     fn done(start: u32, sections: Sections) -> Outcome
-        ensures { result ≡ doneOutcome start sections }
+        ensures { result ≡ done_outcome start sections }
     {
         Outcome {
             answer: Answer::done_at(start),
@@ -76,7 +76,7 @@ impl Sections {
 
     // Opens the arena of `length` bytes at `start`. What lies before the first multiple of the base alignment is lost. Refused: 13, with a state of zeros.
     pub fn open(start: u64, length: u64) -> Outcome
-        ensures { result ≡ openOf baseAlignment start length }
+        ensures { result ≡ open_of base_alignment start length }
     {
         let lost = alignment::bytes_lost(Sections::BASE_ALIGNMENT, start) as u64;
         let zeros = Sections::fresh(0);
@@ -101,7 +101,7 @@ impl Sections {
     // The checks 13 and 14, with which both allocations begin: the number of the first that fails, or done. Each is known before the first is told, so
     // that their order can be read off.
     fn check_allocation(self, alignment: u32) -> u32
-        ensures { result ≡ (allocationOf baseAlignment self alignment).answer.number }
+        ensures { result ≡ (allocation_of base_alignment self alignment).answer.number }
     {
         let valid = self.is_valid();
         let allowed = alignment::is_allowed(Sections::BASE_ALIGNMENT, alignment);
@@ -117,7 +117,7 @@ impl Sections {
     // Document 01's keep: allocates at the tail, for as long as the arena is used. Refused: 13, 14, 15; done: a is the start. TensorFlow Lite Micro compares
     // the start with the head only; here no temporary is ever met.
     pub fn allocate_persistent(self, size: u32, alignment: u32) -> Outcome
-        ensures { result ≡ persistentOf baseAlignment self size alignment }
+        ensures { result ≡ persistent_of base_alignment self size alignment }
     {
         let refusal = self.check_allocation(alignment);
         if refusal != Answer::DONE {
@@ -137,7 +137,7 @@ impl Sections {
 
     // Document 01's borrow: allocates above the temporaries, until they are reset. Refused: 13, 14, 15; done: a is the start.
     pub fn allocate_temp(self, size: u32, alignment: u32) -> Outcome
-        ensures { result ≡ tempOf baseAlignment self size alignment }
+        ensures { result ≡ temp_of base_alignment self size alignment }
     {
         let refusal = self.check_allocation(alignment);
         if refusal != Answer::DONE {
@@ -155,7 +155,7 @@ impl Sections {
 
     // Gives every temporary allocation back. Refused: 13.
     pub fn reset_temp(self) -> Outcome
-        ensures { result ≡ resetOf self }
+        ensures { result ≡ reset_of self }
     {
         if !self.is_valid() {
             return Outcome::refused(Answer::SECTIONS_NOT_VALID, self);

@@ -4,33 +4,33 @@
 -- seen too.
 use Rattle.std.specs.Prelude.{ℕ, List, [], ◌∷◌, ◌++◌, map, ◌≡◌, refl, ℤ, pos, negsuc, length}
 use Rattle.alignment.specs.Alignments.{loss, allowed}
-use Rattle.alignment.specs.Powers.{isPowerOfTwo}
-use Rattle.alignment.specs.Rounding.{roundedUp, roundedDown}
-use Rattle.answer.specs.Answer.{doneWith, doneAt, refused, refusedAt, refusedPair, refusedNeed, fixedRowsCollide, needExceedsSpace, noRoom, temporariesOut, readBeforeWritten}
+use Rattle.alignment.specs.Powers.{is_power_of_two}
+use Rattle.alignment.specs.Rounding.{rounded_up, rounded_down}
+use Rattle.answer.specs.Answer.{done_with, done_at, refused, refused_at, refused_pair, refused_need, fixed_rows_collide, need_exceeds_space, no_room, temporaries_out, read_before_written}
 use Rattle.answer.specs.declared.Answer.{Answer}
-use Rattle.arena_sections.specs.History.{Operation, outcomeOf, after}
-use Rattle.arena_sections.specs.History.Operation.{allocatePersistent, allocateTemp, setHead}
-use Rattle.arena_sections.specs.Sections.{baseAlignment, valid, notUsable, openOf, persistentFull, persistentOf, tempFull, tempOf, head_of}
+use Rattle.arena_sections.specs.History.{Operation, outcome_of, after}
+use Rattle.arena_sections.specs.History.Operation.{allocate_persistent, allocate_temp, set_head}
+use Rattle.arena_sections.specs.Sections.{base_alignment, valid, not_usable, open_of, persistent_full, persistent_of, temp_full, temp_of, head_of}
 use Rattle.arena_sections.specs.declared.Outcome.{Outcome}
 use Rattle.bounded.specs.Count.{one, count}
-use Rattle.bounded.specs.First.{firstFrom, firstIn, holdsBelow}
+use Rattle.bounded.specs.First.{first_from, first_in, holds_below}
 use Rattle.bounded.specs.Greatest.{greatest}
-use Rattle.bounded.specs.Last.{lastIn}
-use Rattle.bounded.specs.InOrder.{rank, atRank, inOrder}
+use Rattle.bounded.specs.Last.{last_in}
+use Rattle.bounded.specs.InOrder.{rank, at_rank, in_order}
 use Rattle.bounded.specs.Listed.{list_from}
-use Rattle.bounded.specs.Pair.{partner, hasPartner, pairBelow, pairFirst, pairSecond}
+use Rattle.bounded.specs.Pair.{partner, has_partner, pair_below, pair_first, pair_second}
 use Rattle.bounded.specs.Replaced.{replaced}
-use Rattle.bounded.specs.TwoEach.{twoEach}
-use Rattle.words.specs.Words.{natural, isMinusOne}
-use Rattle.request_table.specs.Buffers.{liveTogether, shareByte, collides, endOrZero, need}
+use Rattle.bounded.specs.TwoEach.{two_each}
+use Rattle.words.specs.Words.{natural, is_minus_one}
+use Rattle.request_table.specs.Buffers.{live_together, share_byte, collides, end_or_zero, need}
 use Rattle.request_table.specs.Limits.{grid}
 use Rattle.request_table.specs.Table.{request, good}
-use Rattle.placement.specs.Placing.{put, free, top, lowest, offsetFor, placing, place}
-use Rattle.greedy_rule.specs.Greedy.{largerFirst, fixedRows, greedyOrder, greedyPlan}
-use Rattle.greedy_rule.specs.Plan.{fixedCollide, greedyNeed, plan_of, plannedTable}
-use Rattle.lifetime_rule.specs.FromUses.{outOfLimits, lifetimesOf, finalLifetimes}
-use Rattle.lifetime_rule.specs.Lifetimes.{names, named, givesOut, isOutput, first_of, last_of, unnamed, lets, readable, tooEarly}
-use Rattle.lifetime_rule.specs.Uses.{reads, writes, modelInput, modelOutput, useAt, good as goodUse}
+use Rattle.placement.specs.Placing.{put, free, top, lowest, offset_for, placing, place}
+use Rattle.greedy_rule.specs.Greedy.{larger_first, fixed_rows, greedy_order, greedy_plan}
+use Rattle.greedy_rule.specs.Plan.{fixed_collide, greedy_need, plan_of, planned_table}
+use Rattle.lifetime_rule.specs.FromUses.{out_of_limits, lifetimes_of, final_lifetimes}
+use Rattle.lifetime_rule.specs.Lifetimes.{names, named, gives_out, is_output, first_of, last_of, unnamed, lets, readable, too_early}
+use Rattle.lifetime_rule.specs.Uses.{reads, writes, model_input, model_output, use_at, good as good_use}
 
 -- An answer, and the words after it.
 pub record Result : Type 0 where
@@ -49,14 +49,14 @@ abbrev row : ℕ → ℕ → ℕ → ℤ → List ℤ
 row size first last offset = pos size ∷ pos first ∷ pos last ∷ offset ∷ []
 
 -- Placed by us.
-abbrev free-row : ℤ
-free-row = negsuc 0
+abbrev free_row : ℤ
+free_row = negsuc 0
 
 -- A table planned in a space, over a lent table, and the answer and words that are wanted.
 abbrev planned : List ℤ → ℕ → List ℤ → Answer → List ℤ → Sheet
 planned t space lent answer words =
     record {
-      given = record { answer = plan_of grid t space (length lent); words = plannedTable grid t space lent };
+      given = record { answer = plan_of grid t space (length lent); words = planned_table grid t space lent };
       wanted = record { answer = answer; words = words };
     }
 
@@ -64,49 +64,49 @@ planned t space lent answer words =
 abbrev one_entry : List ℤ
 one_entry = pos 7 ∷ []
 
-abbrev two-entries : List ℤ
-two-entries = pos 7 ∷ one_entry
+abbrev two_entries : List ℤ
+two_entries = pos 7 ∷ one_entry
 
-abbrev three-entries : List ℤ
-three-entries = pos 7 ∷ two-entries
+abbrev three_entries : List ℤ
+three_entries = pos 7 ∷ two_entries
 
-abbrev four-entries : List ℤ
-four-entries = pos 7 ∷ three-entries
+abbrev four_entries : List ℤ
+four_entries = pos 7 ∷ three_entries
 
 -- Sheet A.
-abbrev sheetA : List ℤ
-sheetA = row 100 0 1 free-row ++ (row 50 0 2 free-row ++ row 40 2 3 free-row)
+abbrev sheet_a : List ℤ
+sheet_a = row 100 0 1 free_row ++ (row 50 0 2 free_row ++ row 40 2 3 free_row)
 
 -- A fixed row that lives through, and one of another size beside it.
 abbrev beside : ℕ → List ℤ
-beside size = row 64 0 3 (pos 64) ++ row size 1 2 free-row
+beside size = row 64 0 3 (pos 64) ++ row size 1 2 free_row
 
 -- Two rows of 32, the second alive from one moment to another.
 abbrev two : ℕ → ℕ → ℕ → List ℤ
-two last first' last' = row 32 0 last free-row ++ row 32 first' last' free-row
+two last first' last' = row 32 0 last free_row ++ row 32 first' last' free_row
 
 -- Two fixed rows that never live together, and a row that lives with both.
 abbrev three : List ℤ
-three = row 64 0 0 (pos 0) ++ (row 32 1 1 (pos 0) ++ row 16 0 1 free-row)
+three = row 64 0 0 (pos 0) ++ (row 32 1 1 (pos 0) ++ row 16 0 1 free_row)
 
 -- Two fixed rows that collide.
 abbrev clash : List ℤ
 clash = row 20 0 0 (pos 0) ++ row 8 0 0 (pos 16)
 
-abbrev planner-sheets : List Sheet
-planner-sheets =
-    planned sheetA 1024 four-entries (doneWith 176) (pos 0 ∷ pos 112 ∷ pos 0 ∷ one_entry)
-    ∷ planned sheetA 176 four-entries (doneWith 176) (pos 0 ∷ pos 112 ∷ pos 0 ∷ one_entry)
-    ∷ planned sheetA 175 four-entries (refusedNeed needExceedsSpace 176) four-entries
-    ∷ planned (beside 64) 1024 three-entries (doneWith 128) (pos 64 ∷ pos 0 ∷ one_entry)
-    ∷ planned (beside 65) 1024 three-entries (doneWith 208) (pos 64 ∷ pos 128 ∷ one_entry)
-    ∷ planned (two 0 0 0) 1024 three-entries (doneWith 64) (pos 0 ∷ pos 32 ∷ one_entry)
-    ∷ planned (two 1 1 2) 1024 three-entries (doneWith 64) (pos 0 ∷ pos 32 ∷ one_entry)
-    ∷ planned (two 1 2 3) 1024 three-entries (doneWith 32) (pos 0 ∷ pos 0 ∷ one_entry)
-    ∷ planned three 1024 four-entries (doneWith 80) (pos 0 ∷ pos 0 ∷ pos 64 ∷ one_entry)
-    ∷ planned clash 1024 three-entries (refusedPair fixedRowsCollide 0 1) three-entries
-    ∷ planned [] 1024 one_entry (doneWith 0) one_entry
-    ∷ planned (row 0 0 0 (pos 48)) 1024 two-entries (doneWith 0) (pos 48 ∷ one_entry)
+abbrev planner_sheets : List Sheet
+planner_sheets =
+    planned sheet_a 1024 four_entries (done_with 176) (pos 0 ∷ pos 112 ∷ pos 0 ∷ one_entry)
+    ∷ planned sheet_a 176 four_entries (done_with 176) (pos 0 ∷ pos 112 ∷ pos 0 ∷ one_entry)
+    ∷ planned sheet_a 175 four_entries (refused_need need_exceeds_space 176) four_entries
+    ∷ planned (beside 64) 1024 three_entries (done_with 128) (pos 64 ∷ pos 0 ∷ one_entry)
+    ∷ planned (beside 65) 1024 three_entries (done_with 208) (pos 64 ∷ pos 128 ∷ one_entry)
+    ∷ planned (two 0 0 0) 1024 three_entries (done_with 64) (pos 0 ∷ pos 32 ∷ one_entry)
+    ∷ planned (two 1 1 2) 1024 three_entries (done_with 64) (pos 0 ∷ pos 32 ∷ one_entry)
+    ∷ planned (two 1 2 3) 1024 three_entries (done_with 32) (pos 0 ∷ pos 0 ∷ one_entry)
+    ∷ planned three 1024 four_entries (done_with 80) (pos 0 ∷ pos 0 ∷ pos 64 ∷ one_entry)
+    ∷ planned clash 1024 three_entries (refused_pair fixed_rows_collide 0 1) three_entries
+    ∷ planned [] 1024 one_entry (done_with 0) one_entry
+    ∷ planned (row 0 0 0 (pos 48)) 1024 two_entries (done_with 0) (pos 48 ∷ one_entry)
     ∷ []
 
 -- ---- the sections' sheet
@@ -122,63 +122,63 @@ operated o answer words =
 
 -- Start 1003, length 2,048.
 abbrev arena : Outcome
-arena = openOf baseAlignment 1003 2048
+arena = open_of base_alignment 1003 2048
 
 -- An operation after others in that arena.
 abbrev later : List Operation → Operation → Outcome
-later before op = outcomeOf baseAlignment (after baseAlignment arena.sections before) op
+later before op = outcome_of base_alignment (after base_alignment arena.sections before) op
 
 abbrev keep : ℕ → ℕ → Operation
-keep size alignment = allocatePersistent size alignment
+keep size alignment = allocate_persistent size alignment
 
-abbrev section-sheet : List Sheet
-section-sheet =
-    operated arena (doneAt 0) (pos 0 ∷ pos 0 ∷ pos 2043 ∷ pos 2043 ∷ [])
-    ∷ operated (later [] (keep 10 8)) (doneAt 2032) (pos 0 ∷ pos 0 ∷ pos 2032 ∷ pos 2043 ∷ [])
-    ∷ operated (later (keep 10 8 ∷ []) (allocateTemp 20 16)) (doneAt 0) (pos 0 ∷ pos 20 ∷ pos 2032 ∷ pos 2043 ∷ [])
-    ∷ operated (later (keep 10 8 ∷ allocateTemp 20 16 ∷ []) (keep 2013 1)) (refused noRoom) (pos 0 ∷ pos 20 ∷ pos 2032 ∷ pos 2043 ∷ [])
-    ∷ operated (later (keep 10 8 ∷ allocateTemp 20 16 ∷ keep 2013 1 ∷ []) (keep 2012 1)) (doneAt 20) (pos 0 ∷ pos 20 ∷ pos 20 ∷ pos 2043 ∷ [])
-    ∷ operated (later (keep 10 8 ∷ allocateTemp 20 16 ∷ keep 2013 1 ∷ keep 2012 1 ∷ []) (setHead 64)) (refused temporariesOut) (pos 0 ∷ pos 20 ∷ pos 20 ∷ pos 2043 ∷ [])
+abbrev section_sheet : List Sheet
+section_sheet =
+    operated arena (done_at 0) (pos 0 ∷ pos 0 ∷ pos 2043 ∷ pos 2043 ∷ [])
+    ∷ operated (later [] (keep 10 8)) (done_at 2032) (pos 0 ∷ pos 0 ∷ pos 2032 ∷ pos 2043 ∷ [])
+    ∷ operated (later (keep 10 8 ∷ []) (allocate_temp 20 16)) (done_at 0) (pos 0 ∷ pos 20 ∷ pos 2032 ∷ pos 2043 ∷ [])
+    ∷ operated (later (keep 10 8 ∷ allocate_temp 20 16 ∷ []) (keep 2013 1)) (refused no_room) (pos 0 ∷ pos 20 ∷ pos 2032 ∷ pos 2043 ∷ [])
+    ∷ operated (later (keep 10 8 ∷ allocate_temp 20 16 ∷ keep 2013 1 ∷ []) (keep 2012 1)) (done_at 20) (pos 0 ∷ pos 20 ∷ pos 20 ∷ pos 2043 ∷ [])
+    ∷ operated (later (keep 10 8 ∷ allocate_temp 20 16 ∷ keep 2013 1 ∷ keep 2012 1 ∷ []) (set_head 64)) (refused temporaries_out) (pos 0 ∷ pos 20 ∷ pos 20 ∷ pos 2043 ∷ [])
     ∷ []
 
 -- ---- the lives' sheets
 
 -- A use: operator, tensor, role.
-abbrev one-use : ℕ → ℕ → ℕ → List ℤ
-one-use operator tensor role = pos operator ∷ pos tensor ∷ pos role ∷ []
+abbrev one_use : ℕ → ℕ → ℕ → List ℤ
+one_use operator tensor role = pos operator ∷ pos tensor ∷ pos role ∷ []
 
 -- The lives of so many tensors under so many operators, over a lent table, and the answer and words that are wanted.
-abbrev given-uses : ℕ → ℕ → List ℤ → List ℤ → Answer → List ℤ → Sheet
-given-uses operators tensors uses lent answer words =
+abbrev given_uses : ℕ → ℕ → List ℤ → List ℤ → Answer → List ℤ → Sheet
+given_uses operators tensors uses lent answer words =
     record {
-      given = record { answer = lifetimesOf operators tensors uses (length lent); words = finalLifetimes operators tensors uses lent };
+      given = record { answer = lifetimes_of operators tensors uses (length lent); words = final_lifetimes operators tensors uses lent };
       wanted = record { answer = answer; words = words };
     }
 
 -- Tensor 0 is a model input.
-abbrev input-use : List ℤ
-input-use = one-use 0 0 modelInput
+abbrev input_use : List ℤ
+input_use = one_use 0 0 model_input
 
 -- Tensor 1 is written and a model output, so that by document 02's order 2 it lives 0–2; tensor 2 is written by an operator and read by the next.
-abbrev other-uses : List ℤ
-other-uses = one-use 0 0 reads ++ (one-use 0 1 writes ++ (one-use 0 1 modelOutput ++ (one-use 1 0 reads ++ (one-use 1 2 writes ++ one-use 2 2 reads))))
+abbrev other_uses : List ℤ
+other_uses = one_use 0 0 reads ++ (one_use 0 1 writes ++ (one_use 0 1 model_output ++ (one_use 1 0 reads ++ (one_use 1 2 writes ++ one_use 2 2 reads))))
 
-abbrev seven-entries : List ℤ
-seven-entries = pos 7 ∷ pos 7 ∷ pos 7 ∷ four-entries
+abbrev seven_entries : List ℤ
+seven_entries = pos 7 ∷ pos 7 ∷ pos 7 ∷ four_entries
 
-abbrev lifetime-sheets : List Sheet
-lifetime-sheets =
-    given-uses 3 3 (input-use ++ other-uses) seven-entries (doneWith 0) (pos 0 ∷ pos 1 ∷ pos 0 ∷ pos 2 ∷ pos 1 ∷ pos 2 ∷ one_entry)
-    ∷ given-uses 3 3 other-uses seven-entries (refusedAt readBeforeWritten 0) seven-entries
+abbrev lifetime_sheets : List Sheet
+lifetime_sheets =
+    given_uses 3 3 (input_use ++ other_uses) seven_entries (done_with 0) (pos 0 ∷ pos 1 ∷ pos 0 ∷ pos 2 ∷ pos 1 ∷ pos 2 ∷ one_entry)
+    ∷ given_uses 3 3 other_uses seven_entries (refused_at read_before_written 0) seven_entries
     ∷ []
 
 -- ---- the table
 
 -- Every starred sheet.
 abbrev pub sheets : List Sheet
-sheets = planner-sheets ++ (section-sheet ++ lifetime-sheets)
+sheets = planner_sheets ++ (section_sheet ++ lifetime_sheets)
 
 -- The two columns are equal.
-pub sheets-hold : map (λ (s : Sheet). s.given) sheets ≡ map (λ (s : Sheet). s.wanted) sheets
-unfolding one count firstFrom firstIn holdsBelow greatest list_from rank atRank inOrder partner hasPartner pairBelow pairFirst pairSecond replaced natural isMinusOne roundedUp roundedDown isPowerOfTwo loss allowed liveTogether shareByte collides endOrZero need request good put free top lowest offsetFor placing place largerFirst fixedRows greedyOrder greedyPlan fixedCollide greedyNeed plan_of plannedTable valid notUsable openOf persistentFull persistentOf tempFull tempOf head_of after lastIn twoEach useAt goodUse names named givesOut isOutput first_of last_of unnamed lets readable tooEarly outOfLimits lifetimesOf finalLifetimes
-sheets-hold = refl
+pub sheets_hold : map (λ (s : Sheet). s.given) sheets ≡ map (λ (s : Sheet). s.wanted) sheets
+unfolding one count first_from first_in holds_below greatest list_from rank at_rank in_order partner has_partner pair_below pair_first pair_second replaced natural is_minus_one rounded_up rounded_down is_power_of_two loss allowed live_together share_byte collides end_or_zero need request good put free top lowest offset_for placing place larger_first fixed_rows greedy_order greedy_plan fixed_collide greedy_need plan_of planned_table valid not_usable open_of persistent_full persistent_of temp_full temp_of head_of after last_in two_each use_at good_use names named gives_out is_output first_of last_of unnamed lets readable too_early out_of_limits lifetimes_of final_lifetimes
+sheets_hold = refl

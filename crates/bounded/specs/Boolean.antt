@@ -6,8 +6,8 @@ use Rattle.std.proofs.Math.Decide.{dec_lt}
 use Rattle.std.proofs.lemmas.Bool.{eqb-false}
 
 -- One number is below another, or it is not.
-pub lt-or-le : (a b : ℕ) → (a < b) ⊎ (b ≤ a)
-lt-or-le a b = go (dec_lt a b)
+pub lt_or_le : (a b : ℕ) → (a < b) ⊎ (b ≤ a)
+lt_or_le a b = go (dec_lt a b)
   where
     go : Dec (a < b) → (a < b) ⊎ (b ≤ a)
     go (yes h) = inl h
@@ -38,9 +38,9 @@ neither true y e = contrary refl e
 neither false y e = (refl, e)
 
 -- and the other way.
-pub neither-holds : (x y : Bool) → x ≡ false → y ≡ false → x || y ≡ false
-neither-holds true y p q = p
-neither-holds false y p q = q
+pub neither_holds : (x y : Bool) → x ≡ false → y ≡ false → x || y ≡ false
+neither_holds true y p q = p
+neither_holds false y p q = q
 
 -- A test that is refuted by what its failing says holds.
 pub refuted : (x : Bool) → (x ≡ false → ⊥) → x ≡ true

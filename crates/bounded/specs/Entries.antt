@@ -1,7 +1,7 @@
 -- What is so of every entry of a list, and of every two, by their indices.
 --     Each So xs d       So of the entry at each index
 --     EachTwo So xs d    So of the entries at any two indices i < j
--- d is what stands past the end of the list, where no index of these reaches. A list grows in front by `each_more` and `two-more`.
+-- d is what stands past the end of the list, where no index of these reaches. A list grows in front by `each_more` and `two_more`.
 use Rattle.std.specs.Prelude.{ℕ, zero, suc, ◌<◌, List, ◌∷◌, length, get_or}
 use Rattle.std.proofs.Common.{le_of_suc-le-suc, arith}
 
@@ -19,7 +19,7 @@ each_more So x xs d p f zero l = p
 each_more So x xs d p f (suc i) l = f i (le_of_suc-le-suc l)
 
 -- One entry more in front, of which it is so with every other.
-pub two-more : {A : Type 0} (So : A → A → Type 0) (x : A) (xs : List A) (d : A) → Each (So x) xs d → EachTwo So xs d → EachTwo So (x ∷ xs) d
-two-more So x xs d p f i zero l m = absurd (omega arith)
-two-more So x xs d p f zero (suc j) l m = p j (le_of_suc-le-suc m)
-two-more So x xs d p f (suc i) (suc j) l m = f i j (le_of_suc-le-suc l) (le_of_suc-le-suc m)
+pub two_more : {A : Type 0} (So : A → A → Type 0) (x : A) (xs : List A) (d : A) → Each (So x) xs d → EachTwo So xs d → EachTwo So (x ∷ xs) d
+two_more So x xs d p f i zero l m = absurd (omega arith)
+two_more So x xs d p f zero (suc j) l m = p j (le_of_suc-le-suc m)
+two_more So x xs d p f (suc i) (suc j) l m = f i j (le_of_suc-le-suc l) (le_of_suc-le-suc m)

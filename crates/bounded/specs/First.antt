@@ -1,7 +1,7 @@
 -- The first index at which a test holds. Every 'lowest' and 'least' of the documents is one of these searches.
 --     firstIn p s n      the least k with s ≤ k < n at which p holds, else n (where s ≤ n)
 --     holdsBelow p n     whether p holds at some k < n
--- A reader believes these by `first-is` and `least-is`, which mention no search. A loop uses `Scan p s n i`: the scan from s has come to i and
+-- A reader believes these by `first_is` and `least_is`, which mention no search. A loop uses `Scan p s n i`: the scan from s has come to i and
 -- found nothing; `scan` starts it, `pass` is one more turn, `hit` leaves it early, `out` runs it to the end.
 use Prim.Native.Nat.{ℕ, zero, suc, ◌+◌, ◌-◌, ◌<◌, ◌≤◌, min, zero-le}
 use Rattle.std.specs.Prelude.{Bool, true, false, ◌||◌, ◌⊎◌, ◌≡◌, ltb}
@@ -9,20 +9,20 @@ use Rattle.std.proofs.Common.{inl, inr, ⊎_elim, sym, ◌∙◌, eq-or-lt_of_le
 use Rattle.std.proofs.Math.Path.{refl, subst}
 use native.Mathlib.Omega.{arith}
 use borrow.Author.Tests.{le-ltb, ltb-true, ltb-false}
-use Rattle.bounded.specs.Boolean.{lt-or-le, contrary, either, neither, neither-holds, refuted, same_test}
+use Rattle.bounded.specs.Boolean.{lt_or_le, contrary, either, neither, neither_holds, refuted, same_test}
 
 -- The search from i over the next k indices.
-unfoldable pub firstFrom : (ℕ → Bool) → ℕ → ℕ → ℕ
-firstFrom p i zero = i
-firstFrom p i (suc k) = elim (p i) [ true ↦ i | false ↦ firstFrom p (i + 1) k ]
+unfoldable pub first_from : (ℕ → Bool) → ℕ → ℕ → ℕ
+first_from p i zero = i
+first_from p i (suc k) = elim (p i) [ true ↦ i | false ↦ first_from p (i + 1) k ]
 
 -- The first index from s on and below n at which the test holds, else n.
-unfoldable pub firstIn : (ℕ → Bool) → ℕ → ℕ → ℕ
-firstIn p s n = firstFrom p s (n - s)
+unfoldable pub first_in : (ℕ → Bool) → ℕ → ℕ → ℕ
+first_in p s n = first_from p s (n - s)
 
 -- Whether the test holds at some index below n.
-unfoldable pub holdsBelow : (ℕ → Bool) → ℕ → Bool
-holdsBelow p n = ltb (firstIn p 0 n) n
+unfoldable pub holds_below : (ℕ → Bool) → ℕ → Bool
+holds_below p n = ltb (first_in p 0 n) n
 
 -- What the search gives, without a search: no index before it passes, and it passes itself unless it is the end.
 pub record IsFirst (p : ℕ → Bool) (s n r : ℕ) : Type 0 where
@@ -52,131 +52,131 @@ module _ (p : ℕ → Bool) where
         at = h.at;
       }
 
-  from_is : (d s : ℕ) → IsFirst p s (s + d) (firstFrom p s d)
-  unfolding firstFrom
+  from_is : (d s : ℕ) → IsFirst p s (s + d) (first_from p s d)
+  unfolding first_from
   from_is zero s =
       record { low = omega arith; high = omega arith; before = λ k m q. absurd (not-le_of_lt q m); at = λ q. absurd (not-le_of_lt q (omega arith)) }
   from_is (suc d) s =
-      step_is s (s + suc d) (firstFrom p (s + 1) d) (p s) refl (omega arith)
-      (subst (λ (n : ℕ). IsFirst p (s + 1) n (firstFrom p (s + 1) d)) (omega arith) (from_is d (s + 1)))
+      step_is s (s + suc d) (first_from p (s + 1) d) (p s) refl (omega arith)
+      (subst (λ (n : ℕ). IsFirst p (s + 1) n (first_from p (s + 1) d)) (omega arith) (from_is d (s + 1)))
 
   -- The search gives the first index from s on and below n that passes, else n.
-  pub first-is : (s n : ℕ) → s ≤ n → IsFirst p s n (firstIn p s n)
-  unfolding firstIn
-  first-is s n l = subst (λ (m : ℕ). IsFirst p s m (firstFrom p s (n - s))) (omega arith) (from_is (n - s) s)
+  pub first_is : (s n : ℕ) → s ≤ n → IsFirst p s n (first_in p s n)
+  unfolding first_in
+  first_is s n l = subst (λ (m : ℕ). IsFirst p s m (first_from p s (n - s))) (omega arith) (from_is (n - s) s)
 
   -- Where the bound itself passes, the search gives the least number that does.
-  pub least-is : (n : ℕ) → p n ≡ true → IsLeast p (firstIn p 0 n)
-  least-is n e = let f = first-is 0 n zero-le in record {
-    passes = ⊎_elim f.at (λ l. let q : n ≡ firstIn p 0 n = omega (arith, f.high) in subst (λ (k : ℕ). p k ≡ true) q e) (lt-or-le (firstIn p 0 n) n);
+  pub least_is : (n : ℕ) → p n ≡ true → IsLeast p (first_in p 0 n)
+  least_is n e = let f = first_is 0 n zero-le in record {
+    passes = ⊎_elim f.at (λ l. let q : n ≡ first_in p 0 n = omega (arith, f.high) in subst (λ (k : ℕ). p k ≡ true) q e) (lt_or_le (first_in p 0 n) n);
     below = λ k l. f.before k zero-le l;
   }
 
   -- Only one number is least.
-  pub one-least : (r q : ℕ) → IsLeast p r → IsLeast p q → r ≡ q
-  one-least r q x y = le_antisymm (no-later r q x y) (no-later q r y x)
+  pub one_least : (r q : ℕ) → IsLeast p r → IsLeast p q → r ≡ q
+  one_least r q x y = le_antisymm (no_later r q x y) (no_later q r y x)
     where
-      no-later : (r q : ℕ) → IsLeast p r → IsLeast p q → r ≤ q
-      no-later r q x y = ⊎_elim (λ l. contrary y.passes (x.below q l)) (λ l. l) (lt-or-le q r)
+      no_later : (r q : ℕ) → IsLeast p r → IsLeast p q → r ≤ q
+      no_later r q x y = ⊎_elim (λ l. contrary y.passes (x.below q l)) (λ l. l) (lt_or_le q r)
 
   -- Only one index is first.
-  pub one-first : (s n r : ℕ) → IsFirst p s n r → firstIn p s n ≡ r
-  one-first s n r x = let f = first-is s n (omega (arith, x.low, x.high)) in le_antisymm (no-later (firstIn p s n) r f x) (no-later r (firstIn p s n) x f)
+  pub one_first : (s n r : ℕ) → IsFirst p s n r → first_in p s n ≡ r
+  one_first s n r x = let f = first_is s n (omega (arith, x.low, x.high)) in le_antisymm (no_later (first_in p s n) r f x) (no_later r (first_in p s n) x f)
     where
-      no-later : (a b : ℕ) → IsFirst p s n a → IsFirst p s n b → a ≤ b
-      no-later a b f g = ⊎_elim (λ l. contrary (g.at (omega (arith, f.high))) (f.before b g.low l)) (λ l. l) (lt-or-le b a)
+      no_later : (a b : ℕ) → IsFirst p s n a → IsFirst p s n b → a ≤ b
+      no_later a b f g = ⊎_elim (λ l. contrary (g.at (omega (arith, f.high))) (f.before b g.low l)) (λ l. l) (lt_or_le b a)
 
 -- Where no index below the bound passes, the search gives the bound.
-pub first-none : (p : ℕ → Bool) (n : ℕ) → ((k : ℕ) → k < n → p k ≡ false) → firstIn p 0 n ≡ n
-first-none p n f = one-first p 0 n n record { low = zero-le; high = omega arith; before = λ k m l. f k l; at = λ l. absurd (omega arith) }
+pub first_none : (p : ℕ → Bool) (n : ℕ) → ((k : ℕ) → k < n → p k ≡ false) → first_in p 0 n ≡ n
+first_none p n f = one_first p 0 n n record { low = zero-le; high = omega arith; before = λ k m l. f k l; at = λ l. absurd (omega arith) }
 
 -- The first index at which one of two tests holds is the lower of the two first.
-pub first_either : (p q : ℕ → Bool) (n : ℕ) → firstIn (λ k. p k || q k) 0 n ≡ min (firstIn p 0 n) (firstIn q 0 n)
+pub first_either : (p q : ℕ → Bool) (n : ℕ) → first_in (λ k. p k || q k) 0 n ≡ min (first_in p 0 n) (first_in q 0 n)
 first_either p q n =
-    one-first (λ k. p k || q k) 0 n _
+    one_first (λ k. p k || q k) 0 n _
     record {
       low = omega arith;
       high = omega (arith, f.high);
-      before = λ k l m. neither-holds (p k) (q k) (f.before k l (omega arith)) (g.before k l (omega arith));
-      at = λ l. refuted _ (λ e. none l (neither (p (min (firstIn p 0 n) (firstIn q 0 n))) (q (min (firstIn p 0 n) (firstIn q 0 n))) e) (lt-or-le (firstIn q 0 n) (firstIn p 0 n)));
+      before = λ k l m. neither_holds (p k) (q k) (f.before k l (omega arith)) (g.before k l (omega arith));
+      at = λ l. refuted _ (λ e. none l (neither (p (min (first_in p 0 n) (first_in q 0 n))) (q (min (first_in p 0 n) (first_in q 0 n))) e) (lt_or_le (first_in q 0 n) (first_in p 0 n)));
     }
   where
-    f : IsFirst p 0 n (firstIn p 0 n)
-    f = first-is p 0 n zero-le
+    f : IsFirst p 0 n (first_in p 0 n)
+    f = first_is p 0 n zero-le
 
-    g : IsFirst q 0 n (firstIn q 0 n)
-    g = first-is q 0 n zero-le
+    g : IsFirst q 0 n (first_in q 0 n)
+    g = first_is q 0 n zero-le
 
-    none : min (firstIn p 0 n) (firstIn q 0 n) < n → (p (min (firstIn p 0 n) (firstIn q 0 n)) ≡ false) × (q (min (firstIn p 0 n) (firstIn q 0 n)) ≡ false)
-        → (firstIn q 0 n < firstIn p 0 n) ⊎ (firstIn p 0 n ≤ firstIn q 0 n) → ⊥
+    none : min (first_in p 0 n) (first_in q 0 n) < n → (p (min (first_in p 0 n) (first_in q 0 n)) ≡ false) × (q (min (first_in p 0 n) (first_in q 0 n)) ≡ false)
+        → (first_in q 0 n < first_in p 0 n) ⊎ (first_in p 0 n ≤ first_in q 0 n) → ⊥
     none l e (inl m) =
-        let z : min (firstIn p 0 n) (firstIn q 0 n) ≡ firstIn q 0 n = omega arith in
+        let z : min (first_in p 0 n) (first_in q 0 n) ≡ first_in q 0 n = omega arith in
         contrary (g.at (omega arith)) (subst (λ (k : ℕ). q k ≡ false) z e.1)
     none l e (inr m) =
-        let z : min (firstIn p 0 n) (firstIn q 0 n) ≡ firstIn p 0 n = omega arith in
+        let z : min (first_in p 0 n) (first_in q 0 n) ≡ first_in p 0 n = omega arith in
         contrary (f.at (omega arith)) (subst (λ (k : ℕ). p k ≡ false) z e.0)
 
 -- ---- whether there is one
 
 module _ (p : ℕ → Bool) (n : ℕ) where
   -- Nothing is found: the test holds nowhere.
-  pub none-holds : holdsBelow p n ≡ false → (k : ℕ) → k < n → p k ≡ false
-  unfolding holdsBelow
-  none-holds e k h = (first-is p 0 n zero-le).before k zero-le (omega (arith, ltb-false (firstIn p 0 n) n e))
+  pub none_holds : holds_below p n ≡ false → (k : ℕ) → k < n → p k ≡ false
+  unfolding holds_below
+  none_holds e k h = (first_is p 0 n zero-le).before k zero-le (omega (arith, ltb-false (first_in p 0 n) n e))
 
   -- The test holds nowhere: nothing is found.
-  pub none_found : ((k : ℕ) → k < n → p k ≡ false) → holdsBelow p n ≡ false
-  unfolding holdsBelow
+  pub none_found : ((k : ℕ) → k < n → p k ≡ false) → holds_below p n ≡ false
+  unfolding holds_below
   none_found f =
       le-ltb _ _
-      (⊎_elim (λ l. contrary ((first-is p 0 n zero-le).at l) (f (firstIn p 0 n) l)) (λ l. l) (lt-or-le (firstIn p 0 n) n))
+      (⊎_elim (λ l. contrary ((first_is p 0 n zero-le).at l) (f (first_in p 0 n) l)) (λ l. l) (lt_or_le (first_in p 0 n) n))
 
   -- Something is found: the first index is below the bound and passes.
-  pub found : holdsBelow p n ≡ true → (firstIn p 0 n < n) × (p (firstIn p 0 n) ≡ true)
-  unfolding holdsBelow
-  found e = let l : firstIn p 0 n < n = ltb-true _ _ e in (l, (first-is p 0 n zero-le).at l)
+  pub found : holds_below p n ≡ true → (first_in p 0 n < n) × (p (first_in p 0 n) ≡ true)
+  unfolding holds_below
+  found e = let l : first_in p 0 n < n = ltb-true _ _ e in (l, (first_is p 0 n zero-le).at l)
 
   -- An index that passes: something is found.
-  pub some-found : (k : ℕ) → k < n → p k ≡ true → holdsBelow p n ≡ true
-  some-found k l e = refuted _ (λ q. contrary e (none-holds q k l))
+  pub some_found : (k : ℕ) → k < n → p k ≡ true → holds_below p n ≡ true
+  some_found k l e = refuted _ (λ q. contrary e (none_holds q k l))
 
 -- Below 0 the test holds nowhere.
-pub holds-none : (p : ℕ → Bool) → holdsBelow p 0 ≡ false
-holds-none p = none_found p 0 (λ k l. absurd (omega arith))
+pub holds_none : (p : ℕ → Bool) → holds_below p 0 ≡ false
+holds_none p = none_found p 0 (λ k l. absurd (omega arith))
 
 -- One index more.
-pub holds_more : (p : ℕ → Bool) (n : ℕ) → holdsBelow p (n + 1) ≡ holdsBelow p n || p n
-holds_more p n = same_test _ _ down (λ e. up (either (holdsBelow p n) (p n) e))
+pub holds_more : (p : ℕ → Bool) (n : ℕ) → holds_below p (n + 1) ≡ holds_below p n || p n
+holds_more p n = same_test _ _ down (λ e. up (either (holds_below p n) (p n) e))
   where
-    down : holdsBelow p (n + 1) ≡ true → holdsBelow p n || p n ≡ true
+    down : holds_below p (n + 1) ≡ true → holds_below p n || p n ≡ true
     down e =
         refuted _ (λ f.
-        let none = neither (holdsBelow p n) (p n) f in
+        let none = neither (holds_below p n) (p n) f in
         let x = found p (n + 1) e in
-        ⊎_elim (λ l. contrary x.1 (none-holds p n none.0 _ l)) (λ l. let q : n ≡ firstIn p 0 (n + 1) = omega (arith, x.0) in contrary x.1 (subst (λ (k : ℕ). p k ≡ false) q none.1))
-        (lt-or-le (firstIn p 0 (n + 1)) n))
+        ⊎_elim (λ l. contrary x.1 (none_holds p n none.0 _ l)) (λ l. let q : n ≡ first_in p 0 (n + 1) = omega (arith, x.0) in contrary x.1 (subst (λ (k : ℕ). p k ≡ false) q none.1))
+        (lt_or_le (first_in p 0 (n + 1)) n))
 
-    up : (holdsBelow p n ≡ true) ⊎ (p n ≡ true) → holdsBelow p (n + 1) ≡ true
-    up (inl e) = let x = found p n e in some-found p (n + 1) _ (omega (arith, x.0)) x.1
-    up (inr e) = some-found p (n + 1) n (omega arith) e
+    up : (holds_below p n ≡ true) ⊎ (p n ≡ true) → holds_below p (n + 1) ≡ true
+    up (inl e) = let x = found p n e in some_found p (n + 1) _ (omega (arith, x.0)) x.1
+    up (inr e) = some_found p (n + 1) n (omega arith) e
 
 -- Two tests that agree below the bound are found to hold alike.
-pub holds_same : (p q : ℕ → Bool) (n : ℕ) → ((k : ℕ) → k < n → p k ≡ q k) → holdsBelow p n ≡ holdsBelow q n
+pub holds_same : (p q : ℕ → Bool) (n : ℕ) → ((k : ℕ) → k < n → p k ≡ q k) → holds_below p n ≡ holds_below q n
 holds_same p q n f = same_test _ _ (one p q f) (one q p (λ k l. sym (f k l)))
   where
-    one : (p q : ℕ → Bool) → ((k : ℕ) → k < n → p k ≡ q k) → holdsBelow p n ≡ true → holdsBelow q n ≡ true
-    one p q f e = let x = found p n e in some-found q n (firstIn p 0 n) x.0 (sym (f (firstIn p 0 n) x.0) ∙ x.1)
+    one : (p q : ℕ → Bool) → ((k : ℕ) → k < n → p k ≡ q k) → holds_below p n ≡ true → holds_below q n ≡ true
+    one p q f e = let x = found p n e in some_found q n (first_in p 0 n) x.0 (sym (f (first_in p 0 n) x.0) ∙ x.1)
 
 -- Two tests that agree from s on and below the bound have the same first index.
-pub first-same : (p q : ℕ → Bool) (s n : ℕ) → ((k : ℕ) → s ≤ k → k < n → p k ≡ q k) → firstIn p s n ≡ firstIn q s n
-unfolding firstIn firstFrom
-first-same p q s n f = go (n - s) s (λ k l m. f k l (omega arith))
+pub first_same : (p q : ℕ → Bool) (s n : ℕ) → ((k : ℕ) → s ≤ k → k < n → p k ≡ q k) → first_in p s n ≡ first_in q s n
+unfolding first_in first_from
+first_same p q s n f = go (n - s) s (λ k l m. f k l (omega arith))
   where
-    go : (d i : ℕ) → ((k : ℕ) → i ≤ k → k < i + d → p k ≡ q k) → firstFrom p i d ≡ firstFrom q i d
+    go : (d i : ℕ) → ((k : ℕ) → i ≤ k → k < i + d → p k ≡ q k) → first_from p i d ≡ first_from q i d
     go zero i h = refl
-    go (suc d) i h = rw (h i (omega arith) (omega arith), firstFrom) (same (q i) (go d (i + 1) (λ k l m. h k (omega arith) (omega arith))))
+    go (suc d) i h = rw (h i (omega arith) (omega arith), first_from) (same (q i) (go d (i + 1) (λ k l m. h k (omega arith) (omega arith))))
       where
-        same : (b : Bool) → firstFrom p (i + 1) d ≡ firstFrom q (i + 1) d → ◌≡◌ {A = ℕ} (elim b [ true ↦ i | false ↦ firstFrom p (i + 1) d ]) (elim b [ true ↦ i | false ↦ firstFrom q (i + 1) d ])
+        same : (b : Bool) → first_from p (i + 1) d ≡ first_from q (i + 1) d → ◌≡◌ {A = ℕ} (elim b [ true ↦ i | false ↦ first_from p (i + 1) d ]) (elim b [ true ↦ i | false ↦ first_from q (i + 1) d ])
         same true e = refl
         same false e = e
 
@@ -186,21 +186,21 @@ module _ (p : ℕ → Bool) (i n : ℕ) where
   one_more : i < n → n - i ≡ suc (n - (i + 1))
   one_more h = omega arith
 
-  first-end : n ≤ i → firstIn p i n ≡ i
-  unfolding firstIn firstFrom
-  first-end h = let e : n - i ≡ 0 = omega arith in rw e
+  first_end : n ≤ i → first_in p i n ≡ i
+  unfolding first_in first_from
+  first_end h = let e : n - i ≡ 0 = omega arith in rw e
 
-  first_step : i < n → p i ≡ false → firstIn p i n ≡ firstIn p (i + 1) n
-  unfolding firstIn firstFrom
-  first_step h e = rw (one_more h, firstFrom, e)
+  first_step : i < n → p i ≡ false → first_in p i n ≡ first_in p (i + 1) n
+  unfolding first_in first_from
+  first_step h e = rw (one_more h, first_from, e)
 
-  first-hit : i < n → p i ≡ true → firstIn p i n ≡ i
-  unfolding firstIn firstFrom
-  first-hit h e = rw (one_more h, firstFrom, e)
+  first_hit : i < n → p i ≡ true → first_in p i n ≡ i
+  unfolding first_in first_from
+  first_hit h e = rw (one_more h, first_from, e)
 
 -- The scan from s has come to i and found nothing.
 pub record Scan (p : ℕ → Bool) (s n i : ℕ) : Type 0 where
-  pub here : firstIn p i n ≡ firstIn p s n
+  pub here : first_in p i n ≡ first_in p s n
 
 -- It starts at s.
 pub scan : (p : ℕ → Bool) (s n : ℕ) → Scan p s n s
@@ -212,9 +212,9 @@ module _ {p : ℕ → Bool} {s n i : ℕ} (h : Scan p s n i) where
   pass l e = record { here = sym (first_step p i n l e) ∙ h.here }
 
   -- Left early: this index is the first.
-  pub hit : i < n → p i ≡ true → i ≡ firstIn p s n
-  hit l e = sym (first-hit p i n l e) ∙ h.here
+  pub hit : i < n → p i ≡ true → i ≡ first_in p s n
+  hit l e = sym (first_hit p i n l e) ∙ h.here
 
   -- Run to the end.
-  pub out : n ≤ i → i ≡ firstIn p s n
-  out l = sym (first-end p i n l) ∙ h.here
+  pub out : n ≤ i → i ≡ first_in p s n
+  out l = sym (first_end p i n l) ∙ h.here

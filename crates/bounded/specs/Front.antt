@@ -13,8 +13,8 @@ module _ {A : Type 0} (xs ys : List A) {n : ℕ} (long : length xs ≡ n) where
   front_at d i l = get_or-append xs (drop n ys) d i (omega arith)
 
   -- and from there on the other's.
-  pub front-past : (d : A) (i : ℕ) → n ≤ i → get_or (xs ++ drop n ys) i d ≡ get_or ys i d
-  front-past d i l =
+  pub front_past : (d : A) (i : ℕ) → n ≤ i → get_or (xs ++ drop n ys) i d ≡ get_or ys i d
+  front_past d i l =
       ap (λ (k : ℕ). get_or (xs ++ drop n ys) k d) (omega arith)
       ∙ get_or-append-add xs (drop n ys) (i - n) d
       ∙ get_or-drop n ys (i - n) d

@@ -1,9 +1,9 @@
 -- The greatest of the values of a function below a bound.
 --     greatest f n       the greatest of f 0 .. f (n - 1), or 0
--- A reader believes it by `greatest-bound` and `greatest-is-one`. A loop starts by `greatest-none` and turns by `greatest-more`.
+-- A reader believes it by `greatest_bound` and `greatest_is_one`. A loop starts by `greatest_none` and turns by `greatest_more`.
 use Rattle.std.specs.Prelude.{ℕ, zero, suc, ◌+◌, ◌<◌, ◌≤◌, max, ◌⊎◌, ◌≡◌, refl}
 use Rattle.std.proofs.Common.{inl, inr, ⊎_elim, sym, subst, ap₂, eq-or-lt_of_le, le_of_suc-le-suc, add-one, arith}
-use Rattle.bounded.specs.Boolean.{lt-or-le}
+use Rattle.bounded.specs.Boolean.{lt_or_le}
 
 -- The greatest of f 0 .. f (n - 1), or 0.
 unfoldable pub greatest : (ℕ → ℕ) → ℕ → ℕ
@@ -11,13 +11,13 @@ greatest f zero = 0
 greatest f (suc n) = max (greatest f n) (f n)
 
 -- No value below the bound is greater.
-pub greatest-bound : (f : ℕ → ℕ) (n i : ℕ) → i < n → f i ≤ greatest f n
+pub greatest_bound : (f : ℕ → ℕ) (n i : ℕ) → i < n → f i ≤ greatest f n
 unfolding greatest
-greatest-bound f zero i h = omega arith
-greatest-bound f (suc n) i h =
+greatest_bound f zero i h = omega arith
+greatest_bound f (suc n) i h =
     ⊎_elim
     (λ e. subst (λ (k : ℕ). f k ≤ max (greatest f n) (f n)) (sym e) (omega arith))
-    (λ l. let b = greatest-bound f n i l in omega arith)
+    (λ l. let b = greatest_bound f n i l in omega arith)
     (eq-or-lt_of_le (le_of_suc-le-suc h))
 
 -- An index at which a value is taken.
@@ -27,10 +27,10 @@ pub record Taken (f : ℕ → ℕ) (n v : ℕ) : Type 0 where
   pub value : f index ≡ v
 
 -- It is one of the values, or 0.
-pub greatest-is-one : (f : ℕ → ℕ) (n : ℕ) → (greatest f n ≡ 0) ⊎ Taken f n (greatest f n)
+pub greatest_is_one : (f : ℕ → ℕ) (n : ℕ) → (greatest f n ≡ 0) ⊎ Taken f n (greatest f n)
 unfolding greatest
-greatest-is-one f zero = inl refl
-greatest-is-one f (suc n) = go (lt-or-le (greatest f n) (f n)) (greatest-is-one f n)
+greatest_is_one f zero = inl refl
+greatest_is_one f (suc n) = go (lt_or_le (greatest f n) (f n)) (greatest_is_one f n)
   where
     go : (greatest f n < f n) ⊎ (f n ≤ greatest f n) → (greatest f n ≡ 0) ⊎ Taken f n (greatest f n)
         → (max (greatest f n) (f n) ≡ 0) ⊎ Taken f (suc n) (max (greatest f n) (f n))
@@ -39,17 +39,17 @@ greatest-is-one f (suc n) = go (lt-or-le (greatest f n) (f n)) (greatest-is-one 
     go (inr l) (inr t) = inr (record { index = t.index; within = omega (arith, t.within); value = omega (arith, t.value) })
 
 -- Functions that agree below the bound have the same greatest value.
-pub greatest-same : (f g : ℕ → ℕ) (n : ℕ) → ((i : ℕ) → i < n → f i ≡ g i) → greatest f n ≡ greatest g n
+pub greatest_same : (f g : ℕ → ℕ) (n : ℕ) → ((i : ℕ) → i < n → f i ≡ g i) → greatest f n ≡ greatest g n
 unfolding greatest
-greatest-same f g zero h = refl
-greatest-same f g (suc n) h = ap₂ (λ (x y : ℕ). max x y) (greatest-same f g n (λ i l. h i (omega arith))) (h n (omega arith))
+greatest_same f g zero h = refl
+greatest_same f g (suc n) h = ap₂ (λ (x y : ℕ). max x y) (greatest_same f g n (λ i l. h i (omega arith))) (h n (omega arith))
 
 -- A loop's start.
-pub greatest-none : (f : ℕ → ℕ) → 0 ≡ greatest f 0
+pub greatest_none : (f : ℕ → ℕ) → 0 ≡ greatest f 0
 unfolding greatest
-greatest-none f = refl
+greatest_none f = refl
 
 -- A loop's turn.
-pub greatest-more : (f : ℕ → ℕ) (n : ℕ) → max (greatest f n) (f n) ≡ greatest f (n + 1)
+pub greatest_more : (f : ℕ → ℕ) (n : ℕ) → max (greatest f n) (f n) ≡ greatest f (n + 1)
 unfolding greatest
-greatest-more f n = rw add-one
+greatest_more f n = rw add-one

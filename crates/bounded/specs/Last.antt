@@ -1,15 +1,15 @@
 -- The last index below a bound at which a test holds: the documents' 'highest'.
 --     lastIn p n         the greatest k < n at which p holds, else 0
 --     end_in p n          one past it; 0 where p holds nowhere
--- A reader believes them by `last-is`, which mentions no search, and `last-before-end`. A loop keeps the end, which tells none from index 0.
+-- A reader believes them by `last_is`, which mentions no search, and `last_before_end`. A loop keeps the end, which tells none from index 0.
 use Rattle.std.specs.Prelude.{ℕ, zero, suc, ◌+◌, ◌-◌, ◌<◌, ◌≤◌, max, Bool, true, false, ◌||◌, ◌≡◌, refl}
 use Rattle.std.proofs.Common.{⊎_elim, sym, subst, eq-or-lt_of_le, le_of_suc-le-suc, arith}
-use Rattle.bounded.specs.Boolean.{contrary, lt-or-le}
+use Rattle.bounded.specs.Boolean.{contrary, lt_or_le}
 
 -- The last index below n at which the test holds, else 0.
-unfoldable pub lastIn : (ℕ → Bool) → ℕ → ℕ
-lastIn p zero = 0
-lastIn p (suc n) = elim (p n) [ true ↦ n | false ↦ lastIn p n ]
+unfoldable pub last_in : (ℕ → Bool) → ℕ → ℕ
+last_in p zero = 0
+last_in p (suc n) = elim (p n) [ true ↦ n | false ↦ last_in p n ]
 
 -- One past it, else 0.
 unfoldable pub end_in : (ℕ → Bool) → ℕ → ℕ
@@ -23,12 +23,12 @@ pub record IsLast (p : ℕ → Bool) (n r : ℕ) : Type 0 where
   pub after : (k : ℕ) → r < k → k < n → p k ≡ false
 
 -- Where some index passes, the search gives the last that does.
-pub last-is : (p : ℕ → Bool) (n k : ℕ) → k < n → p k ≡ true → IsLast p n (lastIn p n)
-unfolding lastIn
-last-is p zero k l e = absurd (omega arith)
-last-is p (suc n) k l e = go (p n) refl (λ m. last-is p n k m e)
+pub last_is : (p : ℕ → Bool) (n k : ℕ) → k < n → p k ≡ true → IsLast p n (last_in p n)
+unfolding last_in
+last_is p zero k l e = absurd (omega arith)
+last_is p (suc n) k l e = go (p n) refl (λ m. last_is p n k m e)
   where
-    go : (b : Bool) → p n ≡ b → (k < n → IsLast p n (lastIn p n)) → IsLast p (suc n) (elim b [ true ↦ n | false ↦ lastIn p n ])
+    go : (b : Bool) → p n ≡ b → (k < n → IsLast p n (last_in p n)) → IsLast p (suc n) (elim b [ true ↦ n | false ↦ last_in p n ])
     go true q h = record { within = omega arith; passes = q; after = λ j m o. absurd (omega arith) }
     go false q h =
         let x = h (⊎_elim (λ z. contrary e (subst (λ (i : ℕ). p i ≡ false) (sym z) q)) (λ z. z) (eq-or-lt_of_le (le_of_suc-le-suc l))) in
@@ -39,36 +39,36 @@ last-is p (suc n) k l e = go (p n) refl (λ m. last-is p n k m e)
         }
 
 -- No index that passes is above the last.
-last-highest : {p : ℕ → Bool} {n r : ℕ} → IsLast p n r → (k : ℕ) → k < n → p k ≡ true → k ≤ r
-last-highest x k l e = ⊎_elim (λ m. contrary e (x.after k m l)) (λ m. m) (lt-or-le _ k)
+last_highest : {p : ℕ → Bool} {n r : ℕ} → IsLast p n r → (k : ℕ) → k < n → p k ≡ true → k ≤ r
+last_highest x k l e = ⊎_elim (λ m. contrary e (x.after k m l)) (λ m. m) (lt_or_le _ k)
 
 -- ---- the end
 
 -- The last index is the one before the end.
-pub last-before-end : (p : ℕ → Bool) (n : ℕ) → end_in p n - 1 ≡ lastIn p n
-unfolding lastIn end_in
-last-before-end p zero = refl
-last-before-end p (suc n) = go (p n) (last-before-end p n)
+pub last_before_end : (p : ℕ → Bool) (n : ℕ) → end_in p n - 1 ≡ last_in p n
+unfolding last_in end_in
+last_before_end p zero = refl
+last_before_end p (suc n) = go (p n) (last_before_end p n)
   where
-    go : (b : Bool) → end_in p n - 1 ≡ lastIn p n → elim b [ true ↦ suc n | false ↦ end_in p n ] - 1 ≡ elim b [ true ↦ n | false ↦ lastIn p n ]
+    go : (b : Bool) → end_in p n - 1 ≡ last_in p n → elim b [ true ↦ suc n | false ↦ end_in p n ] - 1 ≡ elim b [ true ↦ n | false ↦ last_in p n ]
     go true e = omega arith
     go false e = e
 
 -- It is no greater than the bound.
-pub end-bound : (p : ℕ → Bool) (n : ℕ) → end_in p n ≤ n
+pub end_bound : (p : ℕ → Bool) (n : ℕ) → end_in p n ≤ n
 unfolding end_in
-end-bound p zero = omega arith
-end-bound p (suc n) = go (p n) (end-bound p n)
+end_bound p zero = omega arith
+end_bound p (suc n) = go (p n) (end_bound p n)
   where
     go : (b : Bool) → end_in p n ≤ n → elim b [ true ↦ suc n | false ↦ end_in p n ] ≤ suc n
     go true l = omega arith
     go false l = omega arith
 
 -- An index that passes is before it.
-pub before-end : (p : ℕ → Bool) (n k : ℕ) → k < n → p k ≡ true → k < end_in p n
+pub before_end : (p : ℕ → Bool) (n k : ℕ) → k < n → p k ≡ true → k < end_in p n
 unfolding end_in
-before-end p zero k l e = absurd (omega arith)
-before-end p (suc n) k l e = go (p n) refl (λ m. before-end p n k m e)
+before_end p zero k l e = absurd (omega arith)
+before_end p (suc n) k l e = go (p n) refl (λ m. before_end p n k m e)
   where
     go : (b : Bool) → p n ≡ b → (k < n → k < end_in p n) → k < elim b [ true ↦ suc n | false ↦ end_in p n ]
     go true q h = l
@@ -83,8 +83,8 @@ end_none p (suc n) f = rw (f n (omega arith), end_in) (end_none p n (λ k l. f k
 -- Where an index passes and none above it does, it is one past that index.
 pub end_after : (p : ℕ → Bool) (n r : ℕ) → IsLast p n r → end_in p n ≡ r + 1
 end_after p n r x =
-    let l = last-is p n r x.within x.passes in
-    omega (arith, last-before-end p n, before-end p n r x.within x.passes, last-highest x (lastIn p n) l.within l.passes)
+    let l = last_is p n r x.within x.passes in
+    omega (arith, last_before_end p n, before_end p n r x.within x.passes, last_highest x (last_in p n) l.within l.passes)
 
 -- Two tests that agree below the bound have the same end.
 pub end_same : (p q : ℕ → Bool) (n : ℕ) → ((k : ℕ) → k < n → p k ≡ q k) → end_in p n ≡ end_in q n
@@ -97,10 +97,10 @@ end_same p q (suc n) h = rw (h n (omega arith), end_in) (same (q n) (end_same p 
     same false e = e
 
 -- The end where one of two tests holds is the greater of the two ends.
-pub end-either : (p q : ℕ → Bool) (n : ℕ) → end_in (λ k. p k || q k) n ≡ max (end_in p n) (end_in q n)
+pub end_either : (p q : ℕ → Bool) (n : ℕ) → end_in (λ k. p k || q k) n ≡ max (end_in p n) (end_in q n)
 unfolding end_in
-end-either p q zero = omega arith
-end-either p q (suc n) = go (p n) (q n) (end-either p q n) (end-bound p n) (end-bound q n)
+end_either p q zero = omega arith
+end_either p q (suc n) = go (p n) (q n) (end_either p q n) (end_bound p n) (end_bound q n)
   where
     go : (a b : Bool) → end_in (λ k. p k || q k) n ≡ max (end_in p n) (end_in q n) → end_in p n ≤ n → end_in q n ≤ n
         → ◌≡◌ {A = ℕ} (elim (a || b) [ true ↦ suc n | false ↦ end_in (λ k. p k || q k) n ]) (max (elim a [ true ↦ suc n | false ↦ end_in p n ]) (elim b [ true ↦ suc n | false ↦ end_in q n ]))

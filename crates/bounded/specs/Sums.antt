@@ -19,15 +19,15 @@ module _ {A : Type 0} (f : A → ℕ) (d : A) where
   sum_more xs k l = rw (add-one k) (omega (arith, more xs k l))
 
   -- An entry replaced: what it counted goes, what the new one counts comes.
-  pub sum-set : (xs : List A) (k : ℕ) (x : A) → k < length xs → sum ◌+◌ 0 (map f (set xs k x)) + f (get_or xs k d) ≡ sum ◌+◌ 0 (map f xs) + f x
+  pub sum_set : (xs : List A) (k : ℕ) (x : A) → k < length xs → sum ◌+◌ 0 (map f (set xs k x)) + f (get_or xs k d) ≡ sum ◌+◌ 0 (map f xs) + f x
   unfolding sum
-  sum-set [] k y l = absurd (omega arith)
-  sum-set (x ∷ xs) zero y l = omega arith
-  sum-set (x ∷ xs) (suc k) y l = omega (arith, sum-set xs k y (le_of_suc-le-suc l))
+  sum_set [] k y l = absurd (omega arith)
+  sum_set (x ∷ xs) zero y l = omega arith
+  sum_set (x ∷ xs) (suc k) y l = omega (arith, sum_set xs k y (le_of_suc-le-suc l))
 
   -- No entry counts more than all.
-  pub entry-within : (xs : List A) (k : ℕ) → k < length xs → f (get_or xs k d) ≤ sum ◌+◌ 0 (map f xs)
+  pub entry_within : (xs : List A) (k : ℕ) → k < length xs → f (get_or xs k d) ≤ sum ◌+◌ 0 (map f xs)
   unfolding sum
-  entry-within [] k l = absurd (omega arith)
-  entry-within (x ∷ xs) zero l = omega arith
-  entry-within (x ∷ xs) (suc k) l = omega (arith, entry-within xs k (le_of_suc-le-suc l))
+  entry_within [] k l = absurd (omega arith)
+  entry_within (x ∷ xs) zero l = omega arith
+  entry_within (x ∷ xs) (suc k) l = omega (arith, entry_within xs k (le_of_suc-le-suc l))

@@ -3,18 +3,18 @@
 use Prim.Native.Nat.{ℕ}
 use mathlib.Core.Bool.{Bool, ◌&&◌}
 use mathlib.Core.Path.{◌≡◌}
-use Rattle.request_table.specs.Buffers.{occupied, buffer, nonempty, liveTogether, endsAfter, shareByte, collides}
+use Rattle.request_table.specs.Buffers.{occupied, buffer, nonempty, live_together, ends_after, share_byte, collides}
 use Rattle.request_table.specs.declared.Buffer.{Buffer}
 use Rattle.request_table.specs.declared.Request.{Request}
 use Rattle.units.specs.declared.Offset.{Offset}
 
 -- A row's buffer at an offset.
-pub buffer-is : (g : ℕ) (x : Request) (o : Offset) {length : ℕ} → length ≡ occupied g x.size
+pub buffer_is : (g : ℕ) (x : Request) (o : Offset) {length : ℕ} → length ≡ occupied g x.size
     → ◌≡◌ {A = Buffer} (record { first = x.first; last = x.last; offset = o; length = length }) (buffer g x o)
-buffer-is g x o e = λ i. record { first = x.first; last = x.last; offset = o; length = e i }
+buffer_is g x o e = λ i. record { first = x.first; last = x.last; offset = o; length = e i }
 
 -- The test of two buffers that collide.
-pub collide-is : (a b : Buffer) {together after before : Bool} → together ≡ liveTogether a b → after ≡ endsAfter a b → before ≡ endsAfter b a
+pub collide_is : (a b : Buffer) {together after before : Bool} → together ≡ live_together a b → after ≡ ends_after a b → before ≡ ends_after b a
     → (nonempty a && nonempty b) && (together && (after && before)) ≡ collides a b
-unfolding collides shareByte
-collide-is a b p q r = λ i. (nonempty a && nonempty b) && (p i && (q i && r i))
+unfolding collides share_byte
+collide_is a b p q r = λ i. (nonempty a && nonempty b) && (p i && (q i && r i))

@@ -1,15 +1,15 @@
 // A row at an offset (document 01, "Requests and the greedy rule"): its buffer, the grid, whether two buffers live together and collide. The test for
 // living together is one function, for whoever plans or judges a plan; rounding up is `alignment`'s. All is total: any grid, any buffer.
 ghost use Rattle.std.specs.Prelude.{◌≡◌};
-ghost use Rattle.request_table.specs.Table.{onGrid};
-ghost use Rattle.request_table.specs.Buffers.{buffer, liveTogether, endsAfter, collides};
+ghost use Rattle.request_table.specs.Table.{on_grid};
+ghost use Rattle.request_table.specs.Buffers.{buffer, live_together, ends_after, collides};
 
 use request_table::{Buffer, Request};
 use units::Offset;
 
 // Whether the offset is a multiple of the grid.
 pub fn on_grid(grid: u32, offset: Offset) -> bool
-    ensures { result ≡ onGrid grid offset.0 }
+    ensures { result ≡ on_grid grid offset.0 }
 {
     if grid == 0 {
         return offset.0 == 0;
@@ -34,14 +34,14 @@ pub fn buffer_at(grid: u32, request: Request, offset: Offset) -> Buffer
 
 // Both ends of a life count.
 pub fn live_together(a: Buffer, b: Buffer) -> bool
-    ensures { result ≡ liveTogether a b }
+    ensures { result ≡ live_together a b }
 {
     (a.first.0 <= b.last.0) & (b.first.0 <= a.last.0)
 }
 
 // Whether a ends after b starts. It subtracts where there is something to subtract, so that no end is ever worked out and none can overflow.
 fn ends_after(a: Buffer, b: Buffer) -> bool
-    ensures { result ≡ endsAfter a b }
+    ensures { result ≡ ends_after a b }
 {
     if b.offset.0 < a.offset.0 {
         return true;

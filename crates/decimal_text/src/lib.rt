@@ -1,8 +1,8 @@
 // Numbers in decimal, read from text. Every text is allowed: one that spells no number gives what stands for none, so that no caller has a text to
 // look at before it reads.
 ghost use Rattle.std.specs.Prelude.{◌≡◌};
-ghost use Rattle.decimal_text.specs.Spelled.{naturalIn, no_word, aboveZero, belowZero, signedIn};
-ghost use Rattle.decimal_text.specs.DigitByDigit.{withDigit};
+ghost use Rattle.decimal_text.specs.Spelled.{natural_in, no_word, above_zero, below_zero, signed_in};
+ghost use Rattle.decimal_text.specs.DigitByDigit.{with_digit};
 
 // What stands for a number that cannot be read: it is above every limit, so that a test of a limit refuses it too.
 pub const NO_NUMBER: u64 = 18446744073709551615;
@@ -16,7 +16,7 @@ pub struct Word {
 
 // The number with one digit more. Past the range it does not grow, so that no sum wraps.
 fn with_digit(number: u64, code: u8) -> u64
-    ensures { result ≡ withDigit number code }
+    ensures { result ≡ with_digit number code }
 {
     let digit = std::num::wrapping_sub_u8(code, b'0') as u64;
     if 9 < digit {
@@ -30,7 +30,7 @@ fn with_digit(number: u64, code: u8) -> u64
 
 // The number that the text spells by digits alone. Any other text, the empty one too, gives what stands for none.
 pub fn natural(text: &[u8]) -> u64
-    ensures { result ≡ naturalIn text.now }
+    ensures { result ≡ natural_in text.now }
 {
     if text.len() == 0 {
         return NO_NUMBER;
@@ -56,7 +56,7 @@ fn no_word() -> Word
 
 // The number of so many above 0.
 fn above_zero(magnitude: u64) -> Word
-    ensures { result ≡ aboveZero magnitude }
+    ensures { result ≡ above_zero magnitude }
 {
     if 2147483647 < magnitude {
         return no_word();
@@ -69,7 +69,7 @@ fn above_zero(magnitude: u64) -> Word
 
 // The number of so many below 0. It is made from -1 down, since the least has no counterpart above 0.
 fn below_zero(magnitude: u64) -> Word
-    ensures { result ≡ belowZero magnitude }
+    ensures { result ≡ below_zero magnitude }
 {
     if 2147483648 < magnitude {
         return no_word();
@@ -89,7 +89,7 @@ fn below_zero(magnitude: u64) -> Word
 
 // The signed number that the text spells, with a minus sign before it or none.
 pub fn signed(text: &[u8]) -> Word
-    ensures { result ≡ signedIn text.now }
+    ensures { result ≡ signed_in text.now }
 {
     if text.len() == 0 {
         return no_word();

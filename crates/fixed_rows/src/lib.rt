@@ -1,7 +1,7 @@
 // Check 6: whether two fixed rows collide, and which pair of them is the first. Every planner asks it.
 ghost use Rattle.std.specs.Prelude.{◌≡◌};
-ghost use Rattle.greedy_rule.specs.Plan.{fixedCollide};
-ghost use Rattle.fixed_rows.specs.FixedPair.{fixedPair};
+ghost use Rattle.greedy_rule.specs.Plan.{fixed_collide};
+ghost use Rattle.fixed_rows.specs.FixedPair.{fixed_pair};
 
 use units::Row;
 
@@ -14,7 +14,7 @@ pub enum Pair {
 
 // Whether both rows are fixed and collide, each at its own offset.
 fn fixed_collide(grid: u32, table: &[i32], a: Row, b: Row) -> bool
-    ensures { result ≡ fixedCollide grid table.now a.0 b.0 }
+    ensures { result ≡ fixed_collide grid table.now a.0 b.0 }
 {
     let first = request_rows::request_at(table, a);
     let second = request_rows::request_at(table, b);
@@ -29,7 +29,7 @@ fn fixed_collide(grid: u32, table: &[i32], a: Row, b: Row) -> bool
 
 // The first pair of fixed rows that collide, the least first row and then the least second: both scans end at once, at that pair.
 pub fn first_pair(grid: u32, table: &[i32]) -> Pair
-    ensures { result ≡ fixedPair grid table.now }
+    ensures { result ≡ fixed_pair grid table.now }
 {
     let n = table.len() / request_table::ROW_WORDS;
     let mut pair = Pair::Nothing;

@@ -4,10 +4,10 @@ mod order;
 mod place;
 
 ghost use Rattle.std.specs.Prelude.{◌<◌, ◌≤◌, ◌^◌, ◌≡◌, length};
-ghost use Rattle.request_table.specs.Limits.{grid as gridOf, greatestRows};
+ghost use Rattle.request_table.specs.Limits.{grid as gridOf, greatest_rows};
 ghost use Rattle.request_table.specs.Table.{rows as rows_of};
-ghost use Rattle.greedy_rule.specs.Plan.{plan_of, plannedTable};
-ghost use Rattle.greedy_planner.specs.Arrays.{SmallOffsets, storedTable};
+ghost use Rattle.greedy_rule.specs.Plan.{plan_of, planned_table};
+ghost use Rattle.greedy_planner.specs.Arrays.{SmallOffsets, stored_table};
 ghost use Rattle.greedy_planner.specs.Judged.{Placeable, Judged};
 
 use answer::Answer;
@@ -33,9 +33,9 @@ fn check(grid: u32, table: &[i32], space: u32, room: usize) -> Answer
 
 // Stores the offsets of the table's rows in the first entries of the answer table.
 fn store(table: &[i32], found: [Offset; GREATEST_ROWS], offsets: &mut [i32])
-    requires table_bound { (rows_of table.now ≤ greatestRows) × (rows_of table.now ≤ length offsets.old) }
+    requires table_bound { (rows_of table.now ≤ greatest_rows) × (rows_of table.now ≤ length offsets.old) }
     requires small_offsets { SmallOffsets table.now found }
-    ensures { offsets.new ≡ storedTable table.now found offsets.old }
+    ensures { offsets.new ≡ stored_table table.now found offsets.old }
 {
     let n = table.len() / request_table::ROW_WORDS;
     let mut row = Row(0);
@@ -53,7 +53,7 @@ fn fit(grid: u32, table: &[i32], space: u32, offsets: &mut [i32]) -> Answer
     requires grid_nonzero { (0 < grid) × (grid ≤ 2 ^ 24) }
     requires placeable { Placeable grid table.now space (length offsets.old) }
     ensures answer { result ≡ plan_of grid table.now space (length offsets.old) }
-    ensures table { offsets.new ≡ plannedTable grid table.now space offsets.old }
+    ensures table { offsets.new ≡ planned_table grid table.now space offsets.old }
 {
     let found = place::place_rows(grid, table, order::order_rows(grid, table));
     let need = need::need_of(grid, table, found);
@@ -67,7 +67,7 @@ fn fit(grid: u32, table: &[i32], space: u32, offsets: &mut [i32]) -> Answer
 // Document 01's planner. Refused: 1 to 7, in that order; done: the need, and the offsets of the greedy rule in the first entries of `offsets`.
 pub fn plan(requests: &[i32], space: u32, offsets: &mut [i32]) -> Answer
     ensures answer { result ≡ plan_of gridOf requests.now space (length offsets.old) }
-    ensures table { offsets.new ≡ plannedTable gridOf requests.now space offsets.old }
+    ensures table { offsets.new ≡ planned_table gridOf requests.now space offsets.old }
 {
     let judged = check(requests::GRID, requests, space, offsets.len());
     if judged.number != Answer::DONE {

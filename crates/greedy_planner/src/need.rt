@@ -1,9 +1,9 @@
 // The need of a plan: the greatest end of a nonempty row.
 ghost use Rattle.std.specs.Prelude.{◌≤◌, ◌<◌, ◌^◌, max, ◌≡◌};
-ghost use Rattle.request_table.specs.Buffers.{end, endOrZero};
-ghost use Rattle.request_table.specs.Limits.{greatestRows};
+ghost use Rattle.request_table.specs.Buffers.{end, end_or_zero};
+ghost use Rattle.request_table.specs.Limits.{greatest_rows};
 ghost use Rattle.request_table.specs.Table.{rows as rows_of};
-ghost use Rattle.greedy_rule.specs.Plan.{greedyNeed};
+ghost use Rattle.greedy_rule.specs.Plan.{greedy_need};
 ghost use Rattle.greedy_planner.specs.Arrays.{HoldsPlan};
 
 use request_table::{Buffer, GREATEST_ROWS};
@@ -12,7 +12,7 @@ use units::{Offset, Row};
 // The need with one buffer more; an empty one counts for nothing.
 pub(crate) fn raised(need: u64, buffer: Buffer) -> u64
     requires { end buffer < 2 ^ 62 }
-    ensures { result ≡ max need (endOrZero buffer) }
+    ensures { result ≡ max need (end_or_zero buffer) }
 {
     let over = buffer.offset.0 + buffer.length;
     if 0 < buffer.length {
@@ -26,9 +26,9 @@ pub(crate) fn raised(need: u64, buffer: Buffer) -> u64
 
 // The need of the plan that the array holds.
 pub(crate) fn need_of(grid: u32, table: &[i32], offsets: [Offset; GREATEST_ROWS]) -> u64
-    requires table_bound { rows_of table.now ≤ greatestRows }
+    requires table_bound { rows_of table.now ≤ greatest_rows }
     requires holds_plan { HoldsPlan grid table.now offsets }
-    ensures { result ≡ greedyNeed grid table.now }
+    ensures { result ≡ greedy_need grid table.now }
 {
     let n = table.len() / request_table::ROW_WORDS;
     let mut need = 0;

@@ -3,57 +3,57 @@
 use Rattle.std.specs.Prelude.{ℕ, Bool, true, false, ◌&&◌, List, [], ◌∷◌, ◌++◌, ltb, eqb, ℤ, pos, length}
 use Rattle.answer.specs.declared.Answer.{Answer}
 use Rattle.answer.specs.Answer as A
-use Rattle.bounded.specs.Causes.{Cause, ◌⇒◌, firstCause}
-use Rattle.bounded.specs.Pair.{pairBelow, pairFirst, pairSecond}
+use Rattle.bounded.specs.Causes.{Cause, ◌⇒◌, first_cause}
+use Rattle.bounded.specs.Pair.{pair_below, pair_first, pair_second}
 use Rattle.bounded.specs.Replaced.{replaced}
-use Rattle.request_table.specs.Buffers.{collideIn, need}
-use Rattle.request_table.specs.Checks.{tableCauses}
-use Rattle.request_table.specs.Table.{rows, fixed, fixedOffset}
-use Rattle.greedy_rule.specs.Greedy.{greedyPlan}
+use Rattle.request_table.specs.Buffers.{collide_in, need}
+use Rattle.request_table.specs.Checks.{table_causes}
+use Rattle.request_table.specs.Table.{rows, fixed, fixed_offset}
+use Rattle.greedy_rule.specs.Greedy.{greedy_plan}
 
 -- Two fixed rows collide, each at its own offset.
-unfoldable pub fixedCollide : ℕ → List ℤ → ℕ → ℕ → Bool
-fixedCollide g t a b = (fixed t a && fixed t b) && collideIn g t (fixedOffset t) a b
+unfoldable pub fixed_collide : ℕ → List ℤ → ℕ → ℕ → Bool
+fixed_collide g t a b = (fixed t a && fixed t b) && collide_in g t (fixed_offset t) a b
 
 -- The need of the greedy plan.
-unfoldable pub greedyNeed : ℕ → List ℤ → ℕ
-greedyNeed g t = need g t (greedyPlan g t)
+unfoldable pub greedy_need : ℕ → List ℤ → ℕ
+greedy_need g t = need g t (greedy_plan g t)
 
 -- 6: two fixed rows collide, the least a, then the least b.
-abbrev pub fixedCauses : ℕ → List ℤ → List (Cause Answer)
-fixedCauses g t =
-    (pairBelow (fixedCollide g t) (rows t)
-    ⇒ A.refusedPair A.fixedRowsCollide (pairFirst (fixedCollide g t) (rows t)) (pairSecond (fixedCollide g t) (rows t)))
+abbrev pub fixed_causes : ℕ → List ℤ → List (Cause Answer)
+fixed_causes g t =
+    (pair_below (fixed_collide g t) (rows t)
+    ⇒ A.refused_pair A.fixed_rows_collide (pair_first (fixed_collide g t) (rows t)) (pair_second (fixed_collide g t) (rows t)))
     ∷ []
 
 -- 7: the need exceeds the space.
-abbrev pub needCauses : ℕ → List ℤ → ℕ → List (Cause Answer)
-needCauses g t space = (ltb space (greedyNeed g t) ⇒ A.refusedNeed A.needExceedsSpace (greedyNeed g t)) ∷ []
+abbrev pub need_causes : ℕ → List ℤ → ℕ → List (Cause Answer)
+need_causes g t space = (ltb space (greedy_need g t) ⇒ A.refused_need A.need_exceeds_space (greedy_need g t)) ∷ []
 
 -- 6, then 7.
-abbrev pub ownCauses : ℕ → List ℤ → ℕ → List (Cause Answer)
-ownCauses g t space = fixedCauses g t ++ needCauses g t space
+abbrev pub own_causes : ℕ → List ℤ → ℕ → List (Cause Answer)
+own_causes g t space = fixed_causes g t ++ need_causes g t space
 
 -- 1 to 7.
-abbrev pub planCauses : ℕ → List ℤ → ℕ → ℕ → List (Cause Answer)
-planCauses g t space room = tableCauses g t space room ++ ownCauses g t space
+abbrev pub plan_causes : ℕ → List ℤ → ℕ → ℕ → List (Cause Answer)
+plan_causes g t space room = table_causes g t space room ++ own_causes g t space
 
 -- Where no cause holds: done, with the need.
-abbrev pub doneAnswer : ℕ → List ℤ → Answer
-doneAnswer g t = A.doneWith (greedyNeed g t)
+abbrev pub done_answer : ℕ → List ℤ → Answer
+done_answer g t = A.done_with (greedy_need g t)
 
 -- The answer past the checks 1 to 6.
-unfoldable pub fitOf : ℕ → List ℤ → ℕ → Answer
-fitOf g t space = firstCause (needCauses g t space) (doneAnswer g t)
+unfoldable pub fit_of : ℕ → List ℤ → ℕ → Answer
+fit_of g t space = first_cause (need_causes g t space) (done_answer g t)
 
 -- The planner's answer: the first of 1 to 7 that holds, else done with the need.
 unfoldable pub plan_of : ℕ → List ℤ → ℕ → ℕ → Answer
-plan_of g t space room = firstCause (planCauses g t space room) (doneAnswer g t)
+plan_of g t space room = first_cause (plan_causes g t space room) (done_answer g t)
 
 -- The answer table in the end: where the answer is done, the first entries are the plan and the rest stays; on every refusal all stays.
-unfoldable pub plannedTable : ℕ → List ℤ → ℕ → List ℤ → List ℤ
-plannedTable g t space offsets =
+unfoldable pub planned_table : ℕ → List ℤ → ℕ → List ℤ → List ℤ
+planned_table g t space offsets =
     elim (eqb (plan_of g t space (length offsets)).number A.done) [
-      | true ↦ replaced (λ r. pos (greedyPlan g t r)) (rows t) offsets
+      | true ↦ replaced (λ r. pos (greedy_plan g t r)) (rows t) offsets
       | false ↦ offsets
     ]

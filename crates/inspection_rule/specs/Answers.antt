@@ -3,88 +3,88 @@ use Rattle.std.specs.Prelude.{ℕ, ◌<◌, ◌≤◌, true, false, List, ◌++�
 use Rattle.std.proofs.Math.Path.{refl, sym}
 use Rattle.std.proofs.Common.{◌∙◌, arith, lt-ltb, le-ltb}
 use Rattle.answer.specs.declared.Answer.{Answer}
-use Rattle.answer.specs.Answer.{number_of, doneWith, refusedAt, refusedPair, refusedNeed, needExceedsSpace, fixedRowMoved, badOffset, rowsCollide}
-use Rattle.bounded.specs.Causes.{Gives, given, NoneHolds, AllRefuse, firstCause, follows, follows-more, passed, refused-stands}
-use Rattle.bounded.specs.First.{firstIn, holdsBelow}
-use Rattle.bounded.specs.Pair.{pairBelow, pairFirst, pairSecond}
-use Rattle.request_table.specs.CheckLaws.{Checked, none-refuses}
-use Rattle.request_table.specs.Checks.{tableCauses, checkOf}
+use Rattle.answer.specs.Answer.{number_of, done_with, refused_at, refused_pair, refused_need, need_exceeds_space, fixed_row_moved, bad_offset, rows_collide}
+use Rattle.bounded.specs.Causes.{Gives, given, NoneHolds, AllRefuse, first_cause, follows, follows_more, passed, refused_stands}
+use Rattle.bounded.specs.First.{first_in, holds_below}
+use Rattle.bounded.specs.Pair.{pair_below, pair_first, pair_second}
+use Rattle.request_table.specs.CheckLaws.{Checked, none_refuses}
+use Rattle.request_table.specs.Checks.{table_causes, check_of}
 use Rattle.request_table.specs.Table.{rows}
-use Rattle.inspection_rule.specs.Inspect.{moved, offGrid, proposedNeed, proposedCollide, movedCauses, gridCauses, needCauses, pairCauses, offsetCauses, planCauses, ownCauses, acceptedAnswer, pair_of, proposalOf, inspectOf}
+use Rattle.inspection_rule.specs.Inspect.{moved, off_grid, proposed_need, proposed_collide, moved_causes, grid_causes, need_causes, pair_causes, offset_causes, plan_causes, own_causes, accepted_answer, pair_of, proposal_of, inspect_of}
 
 -- The answer of the checks 7 and 10 alone: a step between the laws, which no contract cites.
 unfoldable pub placed_of : ℕ → List ℤ → ℕ → List ℤ → Answer
-placed_of g t space o = firstCause (planCauses g t space o) (acceptedAnswer g t o)
+placed_of g t space o = first_cause (plan_causes g t space o) (accepted_answer g t o)
 
 module _ (g : ℕ) (t : List ℤ) (space : ℕ) (o : List ℤ) where
-  none-moved : rows t ≤ firstIn (moved t o) 0 (rows t) → NoneHolds (movedCauses t o)
-  unfolding holdsBelow
-  none-moved l = (le-ltb _ _ l, tt)
+  none_moved : rows t ≤ first_in (moved t o) 0 (rows t) → NoneHolds (moved_causes t o)
+  unfolding holds_below
+  none_moved l = (le-ltb _ _ l, tt)
 
-  none-off-grid : rows t ≤ firstIn (offGrid g o) 0 (rows t) → NoneHolds (gridCauses g t o)
-  unfolding holdsBelow
-  none-off-grid l = (le-ltb _ _ l, tt)
+  none_off_grid : rows t ≤ first_in (off_grid g o) 0 (rows t) → NoneHolds (grid_causes g t o)
+  unfolding holds_below
+  none_off_grid l = (le-ltb _ _ l, tt)
 
   -- ---- which cause is told first
 
   -- A refusal of the checks 1 to 5 is the inspector's.
-  pub check-stands : ((checkOf g t space (length o)).number ≡ 0 → ⊥) → checkOf g t space (length o) ≡ inspectOf g t space o
-  unfolding checkOf inspectOf
-  check-stands h = refused-stands number_of (tableCauses g t space (length o)) (ownCauses g t space o) (doneWith 0) (acceptedAnswer g t o) refl h
+  pub check_stands : ((check_of g t space (length o)).number ≡ 0 → ⊥) → check_of g t space (length o) ≡ inspect_of g t space o
+  unfolding check_of inspect_of
+  check_stands h = refused_stands number_of (table_causes g t space (length o)) (own_causes g t space o) (done_with 0) (accepted_answer g t o) refl h
 
   -- Past them, a fixed row that was moved is told whatever else holds,
-  pub moved-refused : firstIn (moved t o) 0 (rows t) < rows t → refusedAt fixedRowMoved (firstIn (moved t o) 0 (rows t)) ≡ proposalOf g t space o
-  unfolding proposalOf holdsBelow
-  moved-refused l =
-      let told : Gives (ownCauses g t space o) (acceptedAnswer g t o) (refusedAt fixedRowMoved (firstIn (moved t o) 0 (rows t))) = given (lt-ltb _ _ l) in
+  pub moved_refused : first_in (moved t o) 0 (rows t) < rows t → refused_at fixed_row_moved (first_in (moved t o) 0 (rows t)) ≡ proposal_of g t space o
+  unfolding proposal_of holds_below
+  moved_refused l =
+      let told : Gives (own_causes g t space o) (accepted_answer g t o) (refused_at fixed_row_moved (first_in (moved t o) 0 (rows t))) = given (lt-ltb _ _ l) in
       told.is
 
   -- then an offset off the grid, whatever the need,
-  pub grid-refused : rows t ≤ firstIn (moved t o) 0 (rows t) → firstIn (offGrid g o) 0 (rows t) < rows t
-      → refusedAt badOffset (firstIn (offGrid g o) 0 (rows t)) ≡ proposalOf g t space o
-  unfolding proposalOf holdsBelow
-  grid-refused m l = sym (follows-more (movedCauses t o) (gridCauses g t o ++ planCauses g t space o) (acceptedAnswer g t o) (none-moved m) ∙ rw (lt-ltb _ _ l, firstCause))
+  pub grid_refused : rows t ≤ first_in (moved t o) 0 (rows t) → first_in (off_grid g o) 0 (rows t) < rows t
+      → refused_at bad_offset (first_in (off_grid g o) 0 (rows t)) ≡ proposal_of g t space o
+  unfolding proposal_of holds_below
+  grid_refused m l = sym (follows_more (moved_causes t o) (grid_causes g t o ++ plan_causes g t space o) (accepted_answer g t o) (none_moved m) ∙ rw (lt-ltb _ _ l, first_cause))
 
   -- then a need that exceeds the space, whether rows collide or not.
-  pub need-refused : space < proposedNeed g t o → refusedNeed needExceedsSpace (proposedNeed g t o) ≡ placed_of g t space o
+  pub need_refused : space < proposed_need g t o → refused_need need_exceeds_space (proposed_need g t o) ≡ placed_of g t space o
   unfolding placed_of
-  need-refused l =
-      let told : Gives (planCauses g t space o) (acceptedAnswer g t o) (refusedNeed needExceedsSpace (proposedNeed g t o)) = given (lt-ltb _ _ l) in
+  need_refused l =
+      let told : Gives (plan_causes g t space o) (accepted_answer g t o) (refused_need need_exceeds_space (proposed_need g t o)) = given (lt-ltb _ _ l) in
       told.is
 
   -- ---- what decides where a cause does not hold
 
   -- Past the checks 1 to 5, the inspector's own.
-  pub proposal-decides : Checked g t space (length o) → proposalOf g t space o ≡ inspectOf g t space o
-  unfolding proposalOf inspectOf
-  proposal-decides c = sym (follows-more (tableCauses g t space (length o)) (ownCauses g t space o) (acceptedAnswer g t o) (none-refuses t (length o) g space c))
+  pub proposal_decides : Checked g t space (length o) → proposal_of g t space o ≡ inspect_of g t space o
+  unfolding proposal_of inspect_of
+  proposal_decides c = sym (follows_more (table_causes g t space (length o)) (own_causes g t space o) (accepted_answer g t o) (none_refuses t (length o) g space c))
 
   -- Past 8 and 9, the checks 7 and 10.
-  pub placed-decides : rows t ≤ firstIn (moved t o) 0 (rows t) → rows t ≤ firstIn (offGrid g o) 0 (rows t) → placed_of g t space o ≡ proposalOf g t space o
-  unfolding placed_of proposalOf
-  placed-decides m l = sym (follows-more (offsetCauses g t o) (planCauses g t space o) (acceptedAnswer g t o) ((none-moved m).0, none-off-grid l))
+  pub placed_decides : rows t ≤ first_in (moved t o) 0 (rows t) → rows t ≤ first_in (off_grid g o) 0 (rows t) → placed_of g t space o ≡ proposal_of g t space o
+  unfolding placed_of proposal_of
+  placed_decides m l = sym (follows_more (offset_causes g t o) (plan_causes g t space o) (accepted_answer g t o) ((none_moved m).0, none_off_grid l))
 
   -- Past 7, the check 10.
-  pub pair-decides : proposedNeed g t o ≤ space → pair_of g t o ≡ placed_of g t space o
+  pub pair_decides : proposed_need g t o ≤ space → pair_of g t o ≡ placed_of g t space o
   unfolding pair_of placed_of
-  pair-decides l = sym (follows-more (needCauses g t space o) (pairCauses g t o) (acceptedAnswer g t o) (le-ltb _ _ l, tt))
+  pair_decides l = sym (follows_more (need_causes g t space o) (pair_causes g t o) (accepted_answer g t o) (le-ltb _ _ l, tt))
 
 module _ (g : ℕ) (t : List ℤ) (o : List ℤ) where
   -- Two rows that collide are told, the least pair of them.
-  pub pair-refused : pairBelow (proposedCollide g t o) (rows t) ≡ true
-      → refusedPair rowsCollide (pairFirst (proposedCollide g t o) (rows t)) (pairSecond (proposedCollide g t o) (rows t)) ≡ pair_of g t o
+  pub pair_refused : pair_below (proposed_collide g t o) (rows t) ≡ true
+      → refused_pair rows_collide (pair_first (proposed_collide g t o) (rows t)) (pair_second (proposed_collide g t o) (rows t)) ≡ pair_of g t o
   unfolding pair_of
-  pair-refused e = rw (e, firstCause)
+  pair_refused e = rw (e, first_cause)
 
   -- Where none do, the plan is accepted.
-  pub accepted : pairBelow (proposedCollide g t o) (rows t) ≡ false → doneWith (proposedNeed g t o) ≡ pair_of g t o
+  pub accepted : pair_below (proposed_collide g t o) (rows t) ≡ false → done_with (proposed_need g t o) ≡ pair_of g t o
   unfolding pair_of
-  accepted e = sym (follows (pairCauses g t o) (acceptedAnswer g t o) (e, tt))
+  accepted e = sym (follows (pair_causes g t o) (accepted_answer g t o) (e, tt))
 
-  pair-refuses : AllRefuse number_of (pairCauses g t o)
-  pair-refuses = (omega arith, tt)
+  pair_refuses : AllRefuse number_of (pair_causes g t o)
+  pair_refuses = (omega arith, tt)
 
   -- The answer 0 of the check 10 is that acceptance.
-  pub passed-is-accepted : (pair_of g t o).number ≡ 0 → doneWith (proposedNeed g t o) ≡ pair_of g t o
+  pub passed_is_accepted : (pair_of g t o).number ≡ 0 → done_with (proposed_need g t o) ≡ pair_of g t o
   unfolding pair_of
-  passed-is-accepted e = accepted (passed number_of (pairCauses g t o) (acceptedAnswer g t o) pair-refuses e).0.0
+  passed_is_accepted e = accepted (passed number_of (pair_causes g t o) (accepted_answer g t o) pair_refuses e).0.0

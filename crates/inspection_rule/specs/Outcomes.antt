@@ -5,32 +5,32 @@ use Rattle.std.proofs.Math.Bool.{false}
 use Rattle.std.proofs.Common.{inl, inr, sym, ◌∙◌, ltb-true, ltb-false}
 use Rattle.std.proofs.Math.Path.{refl}
 use Rattle.answer.specs.declared.Answer.{Answer}
-use Rattle.answer.specs.Answer.{doneWith, refusedAt, refusedPair, refusedNeed, fixedRowMoved, badOffset, needExceedsSpace, rowsCollide}
-use Rattle.bounded.specs.Boolean.{contrary, lt-or-le, refuted}
-use Rattle.bounded.specs.First.{holdsBelow, none-holds}
-use Rattle.bounded.specs.Lowest.{Lowest, LeastPair, lowest-of, least-of}
-use Rattle.bounded.specs.Pair.{pairBelow, no-pair}
+use Rattle.answer.specs.Answer.{done_with, refused_at, refused_pair, refused_need, fixed_row_moved, bad_offset, need_exceeds_space, rows_collide}
+use Rattle.bounded.specs.Boolean.{contrary, lt_or_le, refuted}
+use Rattle.bounded.specs.First.{holds_below, none_holds}
+use Rattle.bounded.specs.Lowest.{Lowest, LeastPair, lowest_of, least_of}
+use Rattle.bounded.specs.Pair.{pair_below, no_pair}
 use Rattle.words.specs.Words.{word_at}
-use Rattle.request_table.specs.Buffers.{bufferAt}
+use Rattle.request_table.specs.Buffers.{buffer_at}
 use Rattle.request_table.specs.CheckLaws.{Checked}
-use Rattle.request_table.specs.Colliding.{Colliding, collides-says, collides-of}
-use Rattle.request_table.specs.GoodRows.{good-offset}
-use Rattle.request_table.specs.Limits.{greatestSpace}
-use Rattle.request_table.specs.Table.{rows, word, request, fixed, fixedOffset}
-use Rattle.inspection_rule.specs.ExactRule.{Aligned, Acceptable, Passed, unmoved-says, unmoved_of, on-grid-says, on-grid-of, passed-of, passed-acceptable, fixed_of}
-use Rattle.inspection_rule.specs.Answers.{moved-refused, grid-refused, need-refused, pair-refused, pair-decides, placed-decides, proposal-decides}
-use Rattle.inspection_rule.specs.Inspect.{proposed, moved, offGrid, proposedNeed, proposedCollide, proposalOf, inspectOf}
+use Rattle.request_table.specs.Colliding.{Colliding, collides_says, collides_of}
+use Rattle.request_table.specs.GoodRows.{good_offset_lem}
+use Rattle.request_table.specs.Limits.{greatest_space}
+use Rattle.request_table.specs.Table.{rows, word, request, fixed, fixed_offset}
+use Rattle.inspection_rule.specs.ExactRule.{Aligned, Acceptable, Passed, unmoved_says, unmoved_of, on_grid_says, on_grid_of, passed_of, passed_acceptable, fixed_of}
+use Rattle.inspection_rule.specs.Answers.{moved_refused, grid_refused, need_refused, pair_refused, pair_decides, placed_decides, proposal_decides}
+use Rattle.inspection_rule.specs.Inspect.{proposed, moved, off_grid, proposed_need, proposed_collide, proposal_of, inspect_of}
 
 -- Row r is fixed and is not where it was.
 pub record Moved (t o : List ℤ) (r : ℕ) : Type 0 where
-  pub is-fixed : word t r 3 ≡ negsuc 0 → ⊥
+  pub is_fixed : word t r 3 ≡ negsuc 0 → ⊥
   pub elsewhere : word_at o r ≡ word t r 3 → ⊥
 
 -- Rows a < b of the table collide at their proposed offsets.
 pub record Clash (g : ℕ) (t o : List ℤ) (a b : ℕ) : Type 0 where
   pub rising : a < b
   pub within : b < rows t
-  pub collides : Colliding (bufferAt g t a (proposed o a)) (bufferAt g t b (proposed o b))
+  pub collides : Colliding (buffer_at g t a (proposed o a)) (buffer_at g t b (proposed o b))
 
 module _ (g : ℕ) (t : List ℤ) (space : ℕ) (o : List ℤ) where
   -- No fixed row was moved.
@@ -43,72 +43,72 @@ module _ (g : ℕ) (t : List ℤ) (space : ℕ) (o : List ℤ) where
 
   -- What the answer may be.
   pub data Outcome : Type 0 where
-    row_moved : (a : ℕ) → Lowest (Moved t o) (rows t) a → inspectOf g t space o ≡ refusedAt fixedRowMoved a → Outcome
-    off-grid : (a : ℕ) → NoneMoved → Lowest (λ r. Aligned g (word_at o r) → ⊥) (rows t) a → inspectOf g t space o ≡ refusedAt badOffset a → Outcome
-    too_much : NoneMoved → AllAligned → space < proposedNeed g t o → inspectOf g t space o ≡ refusedNeed needExceedsSpace (proposedNeed g t o) → Outcome
-    rows-clash : (a b : ℕ) → NoneMoved → AllAligned → proposedNeed g t o ≤ space → LeastPair (Clash g t o) a b
-        → inspectOf g t space o ≡ refusedPair rowsCollide a b → Outcome
-    accepted : Acceptable g t space o → inspectOf g t space o ≡ doneWith (proposedNeed g t o) → Outcome
+    row_moved : (a : ℕ) → Lowest (Moved t o) (rows t) a → inspect_of g t space o ≡ refused_at fixed_row_moved a → Outcome
+    off_grid_case : (a : ℕ) → NoneMoved → Lowest (λ r. Aligned g (word_at o r) → ⊥) (rows t) a → inspect_of g t space o ≡ refused_at bad_offset a → Outcome
+    too_much : NoneMoved → AllAligned → space < proposed_need g t o → inspect_of g t space o ≡ refused_need need_exceeds_space (proposed_need g t o) → Outcome
+    rows_clash : (a b : ℕ) → NoneMoved → AllAligned → proposed_need g t o ≤ space → LeastPair (Clash g t o) a b
+        → inspect_of g t space o ≡ refused_pair rows_collide a b → Outcome
+    accepted : Acceptable g t space o → inspect_of g t space o ≡ done_with (proposed_need g t o) → Outcome
 
   -- ---- what the tests say
 
-  moved-says : (r : ℕ) → moved t o r ≡ true → Moved t o r
-  moved-says r e =
+  moved_says : (r : ℕ) → moved t o r ≡ true → Moved t o r
+  moved_says r e =
       record {
-        is-fixed = λ q. contrary e (unmoved_of g t o r (λ f. absurd (f q)));
+        is_fixed = λ q. contrary e (unmoved_of g t o r (λ f. absurd (f q)));
         elsewhere = λ q. contrary e (unmoved_of g t o r (λ f. q));
       }
 
-  moved-of : (r : ℕ) → (fixed t r ≡ true → fixedOffset t r ≤ greatestSpace) → Moved t o r → moved t o r ≡ true
-  moved-of r l m = refuted _ (λ e. m.elsewhere (unmoved-says g t o r e (l (fixed_of t r m.is-fixed)) m.is-fixed))
+  moved_of : (r : ℕ) → (fixed t r ≡ true → fixed_offset t r ≤ greatest_space) → Moved t o r → moved t o r ≡ true
+  moved_of r l m = refuted _ (λ e. m.elsewhere (unmoved_says g t o r e (l (fixed_of t r m.is_fixed)) m.is_fixed))
 
-  grid-says : (r : ℕ) → offGrid g o r ≡ true → Aligned g (word_at o r) → ⊥
-  grid-says r e a = contrary e (on-grid-of g o r a)
+  grid_says : (r : ℕ) → off_grid g o r ≡ true → Aligned g (word_at o r) → ⊥
+  grid_says r e a = contrary e (on_grid_of g o r a)
 
-  grid-of : (r : ℕ) → (Aligned g (word_at o r) → ⊥) → offGrid g o r ≡ true
-  grid-of r f = refuted _ (λ e. f (on-grid-says g o r e))
+  grid_of : (r : ℕ) → (Aligned g (word_at o r) → ⊥) → off_grid g o r ≡ true
+  grid_of r f = refuted _ (λ e. f (on_grid_says g o r e))
 
   -- ---- the answer
 
   module _ (h : 0 < g) (c : Checked g t space (length o)) where
-    own-bound : (r : ℕ) → r < rows t → fixed t r ≡ true → fixedOffset t r ≤ greatestSpace
-    own-bound r l f = good-offset g (request t r) (c.goodRows r l) f
+    own_bound : (r : ℕ) → r < rows t → fixed t r ≡ true → fixed_offset t r ≤ greatest_space
+    own_bound r l f = good_offset_lem g (request t r) (c.good_rows r l) f
 
     -- Past the checks 1 to 5 the inspector answers so.
-    pub inspect-outcome : Outcome
-    unfolding holdsBelow
-    inspect-outcome =
-        go (holdsBelow (moved t o) (rows t)) refl (holdsBelow (offGrid g o) (rows t)) refl (lt-or-le space (proposedNeed g t o))
-        (pairBelow (proposedCollide g t o) (rows t)) refl
+    pub inspect_outcome : Outcome
+    unfolding holds_below
+    inspect_outcome =
+        go (holds_below (moved t o) (rows t)) refl (holds_below (off_grid g o) (rows t)) refl (lt_or_le space (proposed_need g t o))
+        (pair_below (proposed_collide g t o) (rows t)) refl
       where
-        still : holdsBelow (moved t o) (rows t) ≡ false → NoneMoved
-        still e r l m = contrary (moved-of r (own-bound r l) m) (none-holds (moved t o) (rows t) e r l)
+        still : holds_below (moved t o) (rows t) ≡ false → NoneMoved
+        still e r l m = contrary (moved_of r (own_bound r l) m) (none_holds (moved t o) (rows t) e r l)
 
-        even : holdsBelow (offGrid g o) (rows t) ≡ false → AllAligned
-        even e r l = on-grid-says g o r (none-holds (offGrid g o) (rows t) e r l)
+        even : holds_below (off_grid g o) (rows t) ≡ false → AllAligned
+        even e r l = on_grid_says g o r (none_holds (off_grid g o) (rows t) e r l)
 
-        first : {x : Answer} → x ≡ proposalOf g t space o → inspectOf g t space o ≡ x
-        first e = sym (e ∙ proposal-decides g t space o c)
+        first : {x : Answer} → x ≡ proposal_of g t space o → inspect_of g t space o ≡ x
+        first e = sym (e ∙ proposal_decides g t space o c)
 
-        go : (b : Bool) → holdsBelow (moved t o) (rows t) ≡ b → (d : Bool) → holdsBelow (offGrid g o) (rows t) ≡ d
-            → (space < proposedNeed g t o) ⊎ (proposedNeed g t o ≤ space) → (p : Bool) → pairBelow (proposedCollide g t o) (rows t) ≡ p → Outcome
+        go : (b : Bool) → holds_below (moved t o) (rows t) ≡ b → (d : Bool) → holds_below (off_grid g o) (rows t) ≡ d
+            → (space < proposed_need g t o) ⊎ (proposed_need g t o ≤ space) → (p : Bool) → pair_below (proposed_collide g t o) (rows t) ≡ p → Outcome
         go true e d f x p q =
-            row_moved _ (lowest-of (moved t o) (rows t) (λ r l. moved-says r) (λ r l. moved-of r (own-bound r l)) e) (first (moved-refused g t space o (ltb-true _ _ e)))
+            row_moved _ (lowest_of (moved t o) (rows t) (λ r l. moved_says r) (λ r l. moved_of r (own_bound r l)) e) (first (moved_refused g t space o (ltb-true _ _ e)))
         go false e true f x p q =
-            off-grid _ (still e) (lowest-of (offGrid g o) (rows t) (λ r l. grid-says r) (λ r l. grid-of r) f)
-            (first (grid-refused g t space o (ltb-false _ _ e) (ltb-true _ _ f)))
+            off_grid_case _ (still e) (lowest_of (off_grid g o) (rows t) (λ r l. grid_says r) (λ r l. grid_of r) f)
+            (first (grid_refused g t space o (ltb-false _ _ e) (ltb-true _ _ f)))
         go false e false f (inl l) p q =
-            too_much (still e) (even f) l (first (need-refused g t space o l ∙ placed-decides g t space o (ltb-false _ _ e) (ltb-false _ _ f)))
+            too_much (still e) (even f) l (first (need_refused g t space o l ∙ placed_decides g t space o (ltb-false _ _ e) (ltb-false _ _ f)))
         go false e false f (inr l) true q =
-            rows-clash _ _ (still e) (even f) l
-            (least-of (proposedCollide g t o) (rows t) (λ a b m n z. record { rising = m; within = n; collides = collides-says _ _ z }) (λ a b z. (z.rising, z.within, collides-of _ _ z.collides)) q)
-            (first (pair-refused g t o q ∙ pair-decides g t space o l ∙ placed-decides g t space o (ltb-false _ _ e) (ltb-false _ _ f)))
+            rows_clash _ _ (still e) (even f) l
+            (least_of (proposed_collide g t o) (rows t) (λ a b m n z. record { rising = m; within = n; collides = collides_says _ _ z }) (λ a b z. (z.rising, z.within, collides_of _ _ z.collides)) q)
+            (first (pair_refused g t o q ∙ pair_decides g t space o l ∙ placed_decides g t space o (ltb-false _ _ e) (ltb-false _ _ f)))
         go false e false f (inr l) false q =
             let p : Passed g t space o = record {
               checks = c;
-              still = none-holds (moved t o) (rows t) e;
-              even = none-holds (offGrid g o) (rows t) f;
-              within-space = l;
-              clear = no-pair (proposedCollide g t o) (rows t) q;
+              still = none_holds (moved t o) (rows t) e;
+              even = none_holds (off_grid g o) (rows t) f;
+              within_space = l;
+              clear = no_pair (proposed_collide g t o) (rows t) q;
             } in
-            accepted (passed-acceptable g t space o h p) (passed-of g t space o p)
+            accepted (passed_acceptable g t space o h p) (passed_of g t space o p)

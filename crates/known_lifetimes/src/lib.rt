@@ -1,7 +1,7 @@
 // What is known of a tensor from the uses so far, and what one use more adds to it.
 ghost use Rattle.std.specs.Prelude.{◌+◌, ◌≤◌, min, max, ◌≡◌};
-ghost use Rattle.lifetime_rule.specs.Uses.{greatestOperators};
-ghost use Rattle.known_lifetimes.specs.OneUseMore.{readableWith, lifetimeWith};
+ghost use Rattle.lifetime_rule.specs.Uses.{greatest_operators};
+ghost use Rattle.known_lifetimes.specs.OneUseMore.{readable_with, lifetime_with};
 
 use lifetime_rule::Use;
 use operator_uses::GREATEST_OPERATORS;
@@ -29,7 +29,7 @@ fn first_with(lifetime: Lifetime, operator: Moment) -> Moment
 
 // One past the highest operator that names the tensor, with one more.
 fn end_with(lifetime: Lifetime, operator: Moment) -> Moment
-    requires { operator.0 ≤ greatestOperators }
+    requires { operator.0 ≤ greatest_operators }
     ensures { result.0 ≡ max lifetime.end.0 (operator.0 + 1) }
 {
     let after = Moment(operator.0 + 1);
@@ -41,8 +41,8 @@ fn end_with(lifetime: Lifetime, operator: Moment) -> Moment
 
 // The lowest operator that may read the tensor, with one use of it more: any may read a model input, and a write lets those after its operator.
 fn readable_with(lifetime: Lifetime, usage: Use) -> Moment
-    requires { usage.operator.0 ≤ greatestOperators }
-    ensures { result.0 ≡ readableWith lifetime.readable.0 usage }
+    requires { usage.operator.0 ≤ greatest_operators }
+    ensures { result.0 ≡ readable_with lifetime.readable.0 usage }
 {
     if usage.role == MODEL_INPUT {
         return Moment(0);
@@ -58,7 +58,7 @@ fn readable_with(lifetime: Lifetime, usage: Use) -> Moment
 // may read it stays; the operator of a model input is 0. A use of another role or past the limit of operators, which no good use is, says nothing: so
 // nothing is asked of the caller, and no sum can wrap.
 pub fn lifetime_with(lifetime: Lifetime, usage: Use, operators: u32) -> Lifetime
-    ensures { result ≡ lifetimeWith lifetime usage operators }
+    ensures { result ≡ lifetime_with lifetime usage operators }
 {
     if (MODEL_OUTPUT < usage.role) | (GREATEST_OPERATORS < usage.operator.0) {
         return lifetime;

@@ -6,9 +6,9 @@ use denote.Struct.Declared.{row}
 use lib.ListN.{length, length-map}
 use mir.Val.{Val}
 use Rattle.recording_rule.specs.contracts.Ledger.{the_type}
-use Rattle.recording_rule.specs.Ledger.{kindCount}
+use Rattle.recording_rule.specs.Ledger.{kind_count}
 use Rattle.recording_rule.specs.declared.Ledger.{Ledger}
 
 -- What a parameter's place in `good` says.
-pub six-kinds : (l : Ledger) (vs : List Val) → Is (row the_type) l vs → length l.kinds ≡ kindCount
-six-kinds l vs p = simp length-map at p.1.1.0.1.0.1
+pub six_kinds : (l : Ledger) (vs : List Val) → Is (row the_type) l vs → length l.kinds ≡ kind_count
+six_kinds l vs p = simp length-map at p.1.1.0.1.0.1

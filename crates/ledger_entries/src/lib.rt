@@ -1,14 +1,14 @@
 // A ledger as code (document 02, order 4): one to begin with, what was recorded of a kind, and whether a ledger agrees with itself and with what the tail
 // has taken. Any ledger may be handed in.
 ghost use Rattle.std.specs.Prelude.{◌≡◌};
-ghost use Rattle.bounded.specs.First.{holdsBelow};
+ghost use Rattle.bounded.specs.First.{holds_below};
 ghost use Rattle.recording_rule.specs.Ledger.{
-  kindCount,
-  nothingRecorded,
-  emptyLedger,
-  ofKind,
-  totalUsed,
-  passesUsed,
+  kind_count,
+  nothing_recorded,
+  empty_ledger,
+  of_kind,
+  total_used,
+  passes_used,
   balanced as balancedAgainst,
 };
 
@@ -16,7 +16,7 @@ use recording_rule::{Ledger, RecordedAllocation};
 
 // Nothing recorded.
 fn nothing_recorded() -> RecordedAllocation
-    ensures { result ≡ nothingRecorded }
+    ensures { result ≡ nothing_recorded }
 {
     RecordedAllocation {
         requested: 0,
@@ -27,7 +27,7 @@ fn nothing_recorded() -> RecordedAllocation
 
 // A ledger of zeros, to begin with.
 pub fn empty_ledger() -> Ledger
-    ensures { result ≡ emptyLedger }
+    ensures { result ≡ empty_ledger }
 {
     Ledger {
         kinds: [nothing_recorded(); 6],
@@ -36,7 +36,7 @@ pub fn empty_ledger() -> Ledger
 
 // What was recorded of a kind; of a code that no kind has, nothing.
 pub fn of_kind(ledger: Ledger, kind: u32) -> RecordedAllocation
-    ensures { result ≡ ofKind ledger kind }
+    ensures { result ≡ of_kind ledger kind }
 {
     if Ledger::KINDS <= kind {
         return nothing_recorded();
@@ -47,7 +47,7 @@ pub fn of_kind(ledger: Ledger, kind: u32) -> RecordedAllocation
 
 // The used bytes of all kinds. Six numbers of 32 bits need more than 32.
 fn total_used(ledger: Ledger) -> u64
-    ensures { result ≡ totalUsed ledger.kinds }
+    ensures { result ≡ total_used ledger.kinds }
 {
     let mut total = 0;
     let mut kind = 0;
@@ -61,7 +61,7 @@ fn total_used(ledger: Ledger) -> u64
 
 // Whether some kind's requested bytes pass its used bytes.
 fn some_passes(ledger: Ledger) -> bool
-    ensures { result ≡ holdsBelow (passesUsed ledger) kindCount }
+    ensures { result ≡ holds_below (passes_used ledger) kind_count }
 {
     let mut kind = 0;
     while kind < Ledger::KINDS {

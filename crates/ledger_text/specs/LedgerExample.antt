@@ -3,35 +3,35 @@
 use mathlib.Core.List.{[], ◌∷◌, ◌++◌, sum}
 use Rattle.std.specs.Prelude.{◌≡◌, refl}
 use Rattle.alignment.specs.Alignments.{loss, allowed}
-use Rattle.alignment.specs.Powers.{isPowerOfTwo}
-use Rattle.alignment.specs.Rounding.{roundedDown}
-use Rattle.answer.specs.Answer.{doneAt}
+use Rattle.alignment.specs.Powers.{is_power_of_two}
+use Rattle.alignment.specs.Rounding.{rounded_down}
+use Rattle.answer.specs.Answer.{done_at}
 use Rattle.arena_sections.specs.History.{opened}
-use Rattle.arena_sections.specs.Sections.{baseAlignment, valid, notUsable, openOf, persistentFull}
-use Rattle.bounded.specs.First.{holdsBelow, firstIn, firstFrom}
+use Rattle.arena_sections.specs.Sections.{base_alignment, valid, not_usable, open_of, persistent_full}
+use Rattle.bounded.specs.First.{holds_below, first_in, first_from}
 use Rattle.decimal_text.specs.Decimal.{decimal, places}
-use Rattle.ledger_text.specs.LedgerText.{recordLine, ledgerText}
-use Rattle.recording_rule.specs.Ledger.{emptyLedger, totalUsed, balanced}
-use Rattle.recording_rule.specs.Recording.{recordedOf, ledgerAfter, recordingOf}
+use Rattle.ledger_text.specs.LedgerText.{record_line, ledger_text}
+use Rattle.recording_rule.specs.Ledger.{empty_ledger, total_used, balanced}
+use Rattle.recording_rule.specs.Recording.{recorded_of, ledger_after, recording_of}
 use Rattle.recording_rule.specs.declared.Recording.{Recording}
-use Rattle.text_pieces.specs.Pieces.{spaced, linesBelow}
+use Rattle.text_pieces.specs.Pieces.{spaced, lines_below}
 
 -- Document 01's keep, as kind 0.
-abbrev firstKeep : Recording
-firstKeep = recordingOf baseAlignment (opened baseAlignment 1003 2048) emptyLedger 0 10 8
+abbrev first_keep : Recording
+first_keep = recording_of base_alignment (opened base_alignment 1003 2048) empty_ledger 0 10 8
 
 -- It is done, and starts at 2,032.
-pub first-keep-done : firstKeep.answer ≡ doneAt 2032
-unfolding recordedOf openOf notUsable loss valid balanced totalUsed sum holdsBelow firstIn firstFrom allowed isPowerOfTwo persistentFull roundedDown
-first-keep-done = refl
+pub first_keep_done : first_keep.answer ≡ done_at 2032
+unfolding recorded_of open_of not_usable loss valid balanced total_used sum holds_below first_in first_from allowed is_power_of_two persistent_full rounded_down
+first_keep_done = refl
 
 -- The six lines.
-pub first-keep-text : ledgerText firstKeep.ledger
+pub first_keep_text : ledger_text first_keep.ledger
     ≡ (48 ∷ 32 ∷ 49 ∷ 48 ∷ 32 ∷ 49 ∷ 49 ∷ 32 ∷ 49 ∷ 10 ∷ [])
     ++ (49 ∷ 32 ∷ 48 ∷ 32 ∷ 48 ∷ 32 ∷ 48 ∷ 10 ∷ [])
     ++ (50 ∷ 32 ∷ 48 ∷ 32 ∷ 48 ∷ 32 ∷ 48 ∷ 10 ∷ [])
     ++ (51 ∷ 32 ∷ 48 ∷ 32 ∷ 48 ∷ 32 ∷ 48 ∷ 10 ∷ [])
     ++ (52 ∷ 32 ∷ 48 ∷ 32 ∷ 48 ∷ 32 ∷ 48 ∷ 10 ∷ [])
     ++ (53 ∷ 32 ∷ 48 ∷ 32 ∷ 48 ∷ 32 ∷ 48 ∷ 10 ∷ [])
-unfolding ledgerAfter recordedOf openOf notUsable loss valid balanced totalUsed sum holdsBelow firstIn firstFrom allowed isPowerOfTwo persistentFull roundedDown linesBelow recordLine spaced decimal places
-first-keep-text = refl
+unfolding ledger_after recorded_of open_of not_usable loss valid balanced total_used sum holds_below first_in first_from allowed is_power_of_two persistent_full rounded_down lines_below record_line spaced decimal places
+first_keep_text = refl

@@ -1,9 +1,9 @@
 // The text of a ledger (document 02, order 4), written into lent bytes: a line `code requested used count` for each kind, by rising code.
 ghost use Rattle.std.specs.Prelude.{◌+◌, ◌<◌, ◌≤◌, ◌≡◌, length};
-ghost use Rattle.ledger_text.specs.LedgerText.{recordLine, ledgerText, greatestLine, greatestLedgerText};
-ghost use Rattle.recording_rule.specs.Ledger.{kindCount, ofKind};
+ghost use Rattle.ledger_text.specs.LedgerText.{record_line, ledger_text, greatest_line, greatest_ledger_text};
+ghost use Rattle.recording_rule.specs.Ledger.{kind_count, of_kind};
 ghost use Rattle.text_pieces.specs.Put.{Put};
-ghost use Rattle.text_pieces.specs.Replied.{replyWith, leftWith};
+ghost use Rattle.text_pieces.specs.Replied.{reply_with, left_with};
 
 use recording_rule::Ledger;
 pub use text_pieces::Reply;
@@ -14,9 +14,9 @@ pub const GREATEST_LEDGER_TEXT: usize = 210;
 
 // Puts the line of a kind.
 fn put_line(text: &mut [u8], at: usize, ledger: Ledger, code: u32) -> usize
-    requires { (code < kindCount) × (at + greatestLine ≤ length text.old) }
-    ensures line { Put text.old text.new at result (recordLine code (ofKind ledger code)) }
-    ensures short { result ≤ at + greatestLine }
+    requires { (code < kind_count) × (at + greatest_line ≤ length text.old) }
+    ensures line { Put text.old text.new at result (record_line code (of_kind ledger code)) }
+    ensures short { result ≤ at + greatest_line }
 {
     let recorded = ledger_entries::of_kind(ledger, code);
     let after_code = put_number(text, at, b"", code as u64);
@@ -28,8 +28,8 @@ fn put_line(text: &mut [u8], at: usize, ledger: Ledger, code: u32) -> usize
 
 // Puts the lines of all kinds at the start.
 fn put_ledger(text: &mut [u8], ledger: Ledger) -> usize
-    requires { greatestLedgerText ≤ length text.old }
-    ensures { Put text.old text.new 0 result (ledgerText ledger) }
+    requires { greatest_ledger_text ≤ length text.old }
+    ensures { Put text.old text.new 0 result (ledger_text ledger) }
 {
     let mut next = 0;
     let mut code = 0;
@@ -42,8 +42,8 @@ fn put_ledger(text: &mut [u8], ledger: Ledger) -> usize
 
 // The ledger's text stands in the first bytes of `text`, and the rest stays. A `text` of fewer bytes than the longest has is left as it was.
 pub fn write_ledger(ledger: Ledger, text: &mut [u8]) -> Reply
-    ensures reply { result ≡ replyWith greatestLedgerText (ledgerText ledger) (length text.old) }
-    ensures text { text.new ≡ leftWith greatestLedgerText (ledgerText ledger) text.old }
+    ensures reply { result ≡ reply_with greatest_ledger_text (ledger_text ledger) (length text.old) }
+    ensures text { text.new ≡ left_with greatest_ledger_text (ledger_text ledger) text.old }
 {
     if text.len() < GREATEST_LEDGER_TEXT {
         return Reply::NoRoom;

@@ -3,12 +3,12 @@
 use Rattle.std.specs.Prelude.{Bool, List, [], ◌∷◌}
 use Rattle.answer.specs.Answer as A
 use Rattle.answer.specs.declared.Answer.{Answer}
-use Rattle.bounded.specs.Causes.{Cause, ◌⇒◌, firstCause}
+use Rattle.bounded.specs.Causes.{Cause, ◌⇒◌, first_cause}
 
 -- 1, 2 and 3, by whether each holds.
-abbrev pub lengthCauses : Bool → Bool → Bool → List (Cause Answer)
-lengthCauses ragged many short = (ragged ⇒ A.refused A.notWholeRows) ∷ (many ⇒ A.refused A.tooMany) ∷ (short ⇒ A.refused A.tableTooShort) ∷ []
+abbrev pub length_causes : Bool → Bool → Bool → List (Cause Answer)
+length_causes ragged many short = (ragged ⇒ A.refused A.not_whole_rows) ∷ (many ⇒ A.refused A.too_many) ∷ (short ⇒ A.refused A.table_too_short) ∷ []
 
 -- Their answer alone: a refusal, or done with no need.
-unfoldable pub lengthsOf : Bool → Bool → Bool → Answer
-lengthsOf ragged many short = firstCause (lengthCauses ragged many short) (A.doneWith 0)
+unfoldable pub lengths_of : Bool → Bool → Bool → Answer
+lengths_of ragged many short = first_cause (length_causes ragged many short) (A.done_with 0)

@@ -1,6 +1,6 @@
 // The rows of a sheet, as bytes. All have one form: a size with its lifetime, or, where `shapes` is true, a shape with its type code and lifetime.
 ghost use Rattle.std.specs.Prelude.{◌+◌, ◌*◌, ◌≤◌};
-ghost use Rattle.request_table.specs.Limits.{greatestRows};
+ghost use Rattle.request_table.specs.Limits.{greatest_rows};
 
 use crate::text;
 use decimal_text::Word;
@@ -36,7 +36,7 @@ const GREATEST_LINE: usize = DIMENSIONS_WORD + GREATEST_DIMENSIONS;
 
 // Where the row starts among the words of the rows, which is also where the rows before it end. None starts past the most rows' words.
 pub(crate) fn place_of(row: Row, shapes: bool) -> usize
-    ensures { result ≤ 13 * greatestRows }
+    ensures { result ≤ 13 * greatest_rows }
 {
     if GREATEST_ROWS < row.0 {
         return SHAPE_WORDS * GREATEST_ROWS;
@@ -67,7 +67,7 @@ fn put_words(
     first: usize,
     count: usize,
 ) -> bool
-    requires { (place ≤ 13 * greatestRows + 13) × (first ≤ 13) × (count ≤ 13) }
+    requires { (place ≤ 13 * greatest_rows + 13) × (first ≤ 13) × (count ≤ 13) }
 {
     for turn in 0..count {
         let number = number_of(text::word(line, first + turn));

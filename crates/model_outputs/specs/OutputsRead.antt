@@ -8,27 +8,27 @@
 use Rattle.std.specs.Prelude.{ℕ, ◌+◌, ◌*◌, ◌-◌, ◌<◌, ◌≤◌, List, ◌⊎◌, ◌≡◌, ℤ, pos, negsuc, length, get_or, ◌≤ℤ◌, ◌<ℤ◌}
 use Rattle.std.proofs.Common.{inl, inr, ⊎_elim, sym, ◌∙◌, ap, subst, arith}
 use Rattle.std.specs.Int.Signed.{≤ℤ_refl, le_z_yes}
-use Rattle.answer.specs.Answer.{doneWith}
-use Rattle.bounded.specs.Boolean.{lt-or-le}
+use Rattle.answer.specs.Answer.{done_with}
+use Rattle.bounded.specs.Boolean.{lt_or_le}
 use Rattle.words.specs.Words.{word_at}
 use Rattle.words.specs.WordOrders.{le_of, up_to}
 use Rattle.request_table.specs.Limits.{grid}
 use Rattle.request_table.specs.Table.{rows, word}
-use Rattle.lifetime_rule.specs.FromUses.{lifetimesOf, finalLifetimes}
+use Rattle.lifetime_rule.specs.FromUses.{lifetimes_of, final_lifetimes}
 use Rattle.lifetime_rule.specs.Naming.{Output}
-use Rattle.lifetime_rule.specs.SoundLifetimes.{Left, Lifetime, left, output-within, output-last}
+use Rattle.lifetime_rule.specs.SoundLifetimes.{Left, Lifetime, left, output_within, output_last}
 use Rattle.access_rule.specs.Accesses.{count}
 use Rattle.access_rule.specs.Demand3.{Lent, Reads, Writes, SameByte, ScriptDone, demand3}
 use Rattle.access_rule.specs.GoodScripts.{LivingByte, GoodAccess, GoodScript}
-use Rattle.access_rule.specs.Script.{finalBytes}
+use Rattle.access_rule.specs.Script.{final_bytes}
 
 -- The moments of the request table are the lives of a done operator list: row r is tensor r's. Rows past the tensors, as scratch buffers, end with the last
 -- operator or before.
 pub record FromLifetimes (operators tensors : ℕ) (u lifetimes t : List ℤ) : Type 0 where
-  pub done : lifetimesOf operators tensors u (length lifetimes) ≡ doneWith 0
-  pub row-each : tensors ≤ rows t
-  pub first-moments : (r : ℕ) → r < tensors → word t r 1 ≡ word_at (finalLifetimes operators tensors u lifetimes) (r * 2)
-  pub last-moments : (r : ℕ) → r < tensors → word t r 2 ≡ word_at (finalLifetimes operators tensors u lifetimes) (r * 2 + 1)
+  pub done : lifetimes_of operators tensors u (length lifetimes) ≡ done_with 0
+  pub row_each : tensors ≤ rows t
+  pub first_moments : (r : ℕ) → r < tensors → word t r 1 ≡ word_at (final_lifetimes operators tensors u lifetimes) (r * 2)
+  pub last_moments : (r : ℕ) → r < tensors → word t r 2 ≡ word_at (final_lifetimes operators tensors u lifetimes) (r * 2 + 1)
   pub others : (r : ℕ) → tensors ≤ r → r < rows t → word t r 2 ≤ℤ pos (operators - 1)
 
 -- Touch k reads a byte of a model output at the last moment.
@@ -37,7 +37,7 @@ pub record ReadsOutput (operators : ℕ) (u t s : List ℤ) (k : ℕ) : Type 0 w
   pub output : Output u tensor
   pub moment : word s k 0 ≡ pos (operators - 1)
   pub row : word s k 1 ≡ pos tensor
-  pub index-from : pos 0 ≤ℤ word s k 2
+  pub index_from : pos 0 ≤ℤ word s k 2
   pub index_below : word s k 2 <ℤ word t tensor 0
   pub reads : Reads s k
 
@@ -60,38 +60,38 @@ module _ (operators tensors : ℕ) (u lifetimes t : List ℤ) (f : FromLifetimes
   lifetime : (r : ℕ) → r < tensors → Lifetime operators u r (leaves.first r) (leaves.last r)
   lifetime = leaves.lifetime
 
-  first-is : (r : ℕ) → r < tensors → word t r 1 ≡ pos (leaves.first r)
-  first-is r l = f.first-moments r l ∙ leaves.first_entry r l
+  first_is : (r : ℕ) → r < tensors → word t r 1 ≡ pos (leaves.first r)
+  first_is r l = f.first_moments r l ∙ leaves.first_entry r l
 
-  last-is : (r : ℕ) → r < tensors → word t r 2 ≡ pos (leaves.last r)
-  last-is r l = f.last-moments r l ∙ leaves.last_entry r l
+  last_is : (r : ℕ) → r < tensors → word t r 2 ≡ pos (leaves.last r)
+  last_is r l = f.last_moments r l ∙ leaves.last_entry r l
 
   -- A model output is alive at moment T − 1,
-  pub output-alive : (r : ℕ) → Output u r → LastAlive operators t r
-  output-alive r x =
-      let l = output-within operators tensors u lifetimes f.done r x in
-      let e : leaves.last r ≡ operators - 1 = omega (arith, output-last operators tensors u lifetimes f.done r x) in
+  pub output_alive : (r : ℕ) → Output u r → LastAlive operators t r
+  output_alive r x =
+      let l = output_within operators tensors u lifetimes f.done r x in
+      let e : leaves.last r ≡ operators - 1 = omega (arith, output_last operators tensors u lifetimes f.done r x) in
       record {
-        is_row = omega (arith, l, f.row-each);
-        begun = subst (λ (z : ℤ). z ≤ℤ pos (operators - 1)) (sym (first-is r l)) (le_of _ _ (omega (arith, e, (lifetime r l).rising)));
-        lasting = last-is r l ∙ ap pos e;
+        is_row = omega (arith, l, f.row_each);
+        begun = subst (λ (z : ℤ). z ≤ℤ pos (operators - 1)) (sym (first_is r l)) (le_of _ _ (omega (arith, e, (lifetime r l).rising)));
+        lasting = last_is r l ∙ ap pos e;
       }
 
   -- and no row lives past it.
-  pub none-later : (r : ℕ) → r < rows t → word t r 2 ≤ℤ pos (operators - 1)
-  none-later r l = ⊎_elim tensor (λ m. f.others r m l) (lt-or-le r tensors)
+  pub none_later : (r : ℕ) → r < rows t → word t r 2 ≤ℤ pos (operators - 1)
+  none_later r l = ⊎_elim tensor (λ m. f.others r m l) (lt_or_le r tensors)
     where
       tensor : r < tensors → word t r 2 ≤ℤ pos (operators - 1)
-      tensor m = subst (λ (z : ℤ). z ≤ℤ pos (operators - 1)) (sym (last-is r m)) (le_of _ _ (omega (arith, (lifetime r m).below)))
+      tensor m = subst (λ (z : ℤ). z ≤ℤ pos (operators - 1)) (sym (last_is r m)) (le_of _ _ (omega (arith, (lifetime r m).below)))
 
   -- A touch of a row alive at its moment is no later than the last moment,
-  no-later : (s : List ℤ) (k : ℕ) → LivingByte t s k → word s k 0 ≤ℤ pos (operators - 1)
-  no-later s k x = up_to (word s k 0) (word t x.row 2) (operators - 1) x.lasting (none-later x.row x.named)
+  no_later : (s : List ℤ) (k : ℕ) → LivingByte t s k → word s k 0 ≤ℤ pos (operators - 1)
+  no_later s k x = up_to (word s k 0) (word t x.row 2) (operators - 1) x.lasting (none_later x.row x.named)
 
   -- and a read of an output then is a touch of a row alive.
-  read-living : (s : List ℤ) (k : ℕ) → ReadsOutput operators u t s k → LivingByte t s k
-  read-living s k x =
-      let a = output-alive x.tensor x.output in
+  read_living : (s : List ℤ) (k : ℕ) → ReadsOutput operators u t s k → LivingByte t s k
+  read_living s k x =
+      let a = output_alive x.tensor x.output in
       let lasts : word s k 0 ≤ℤ word t x.tensor 2 = subst (λ (z : ℤ). z ≤ℤ word t x.tensor 2) (sym (x.moment ∙ sym a.lasting)) (≤ℤ_refl (word t x.tensor 2)) in
       record {
         row = x.tensor;
@@ -99,23 +99,23 @@ module _ (operators tensors : ℕ) (u lifetimes t : List ℤ) (f : FromLifetimes
         named = a.is_row;
         begun = subst (λ (z : ℤ). word t x.tensor 1 ≤ℤ z) (sym x.moment) a.begun;
         lasting = lasts;
-        index-from = x.index-from;
+        index_from = x.index_from;
         index_below = x.index_below;
-        value-from = subst (λ (z : ℤ). negsuc 0 ≤ℤ z) (sym x.reads) (≤ℤ_refl (negsuc 0));
-        value-to = subst (λ (z : ℤ). z ≤ℤ pos 255) (sym x.reads) (le_z_yes tt);
+        value_from = subst (λ (z : ℤ). negsuc 0 ≤ℤ z) (sym x.reads) (≤ℤ_refl (negsuc 0));
+        value_to = subst (λ (z : ℤ). z ≤ℤ pos 255) (sym x.reads) (le_z_yes tt);
       }
 
   -- So the whole script is good.
-  good-script : (s : List ℤ) → GoodOrReads operators u t s → GoodScript t s
-  good-script s x = record { moments = λ i j l m. rising i j l m (x j m); living = λ k m. alive k (x k m) }
+  good_script : (s : List ℤ) → GoodOrReads operators u t s → GoodScript t s
+  good_script s x = record { moments = λ i j l m. rising i j l m (x j m); living = λ k m. alive k (x k m) }
     where
       alive : (k : ℕ) → GoodAccess t s k ⊎ ReadsOutput operators u t s k → LivingByte t s k
       alive k (inl y) = y.living
-      alive k (inr y) = read-living s k y
+      alive k (inr y) = read_living s k y
 
       rising : (i j : ℕ) → i < j → j < count s → GoodAccess t s j ⊎ ReadsOutput operators u t s j → word s i 0 ≤ℤ word s j 0
       rising i j l m (inl y) = y.moments i l
-      rising i j l m (inr y) = subst (λ (z : ℤ). word s i 0 ≤ℤ z) (sym y.moment) (no-later s i (alive i (x i (omega arith))))
+      rising i j l m (inr y) = subst (λ (z : ℤ). word s i 0 ≤ℤ z) (sym y.moment) (no_later s i (alive i (x i (omega arith))))
 
 -- ---- the script
 
@@ -125,17 +125,17 @@ pub record OutputsRead (g operators : ℕ) (u t : List ℤ) (space : ℕ) (o s :
   pub done : ScriptDone g t space o s arena bytes
   -- and a read of an output at the last moment gives the last byte written there through that same output
   pub last_written : (j k v : ℕ) → j < k → k < count s → ReadsOutput operators u t s k → Writes s j v → SameByte s j k
-      → ((i w : ℕ) → j < i → i < k → Writes s i w → SameByte s i k → ⊥) → get_or (finalBytes g t space o s arena bytes) k 0 ≡ v
+      → ((i w : ℕ) → j < i → i < k → Writes s i w → SameByte s i k → ⊥) → get_or (final_bytes g t space o s arena bytes) k 0 ≡ v
 
 -- The law, from demand 3.
-pub outputs-read : (g operators tensors : ℕ) (u lifetimes t : List ℤ) (space : ℕ) (o s : List ℤ) (arena bytes : List ℕ) → 0 < g
+pub outputs_read : (g operators tensors : ℕ) (u lifetimes t : List ℤ) (space : ℕ) (o s : List ℤ) (arena bytes : List ℕ) → 0 < g
     → FromLifetimes operators tensors u lifetimes t → Lent g t space o s arena bytes → GoodOrReads operators u t s → OutputsRead g operators u t space o s arena bytes
-outputs-read g operators tensors u lifetimes t space o s arena bytes h f l x =
+outputs_read g operators tensors u lifetimes t space o s arena bytes h f l x =
     let d = demand3 g t space o s arena bytes h l in
-    let done = d.done-exactly.1 (good-script operators tensors u lifetimes t f s x) in
-    record { done = done; last_written = λ j k v b m r w same none. d.own-byte done j k v b m r.reads w same none }
+    let done = d.done_exactly.1 (good_script operators tensors u lifetimes t f s x) in
+    record { done = done; last_written = λ j k v b m r w same none. d.own_byte done j k v b m r.reads w same none }
 
 -- And at the grid of the entry points, whose contracts are about the same definitions.
-pub outputs-read-at-grid : (operators tensors : ℕ) (u lifetimes t : List ℤ) (space : ℕ) (o s : List ℤ) (arena bytes : List ℕ)
+pub outputs_read_at_grid : (operators tensors : ℕ) (u lifetimes t : List ℤ) (space : ℕ) (o s : List ℤ) (arena bytes : List ℕ)
     → FromLifetimes operators tensors u lifetimes t → Lent grid t space o s arena bytes → GoodOrReads operators u t s → OutputsRead grid operators u t space o s arena bytes
-outputs-read-at-grid operators tensors u lifetimes t space o s arena bytes = outputs-read grid operators tensors u lifetimes t space o s arena bytes (omega arith)
+outputs_read_at_grid operators tensors u lifetimes t space o s arena bytes = outputs_read grid operators tensors u lifetimes t space o s arena bytes (omega arith)

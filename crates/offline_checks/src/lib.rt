@@ -1,7 +1,7 @@
 // The checks of an offline plan that is to be read (document 01), and where its words stand. All is total: any bytes, any count, any room.
 ghost use Rattle.std.specs.Prelude.{◌≡◌};
-ghost use Rattle.word_bytes.specs.Bytes.{wordOf};
-ghost use Rattle.offline_rule.specs.OfflinePlan.{countPlace, is_number, read_of};
+ghost use Rattle.word_bytes.specs.Bytes.{word_of};
+ghost use Rattle.offline_rule.specs.OfflinePlan.{count_place, is_number, read_of};
 
 use answer::Answer;
 use request_table::GREATEST_ROWS;
@@ -14,7 +14,7 @@ pub const OFFSETS_PLACE: usize = 12;
 
 // Whether the plan's third word is that count. From half on the bits are a negative word, which is no count.
 fn is_for(bytes: &[u8], tensors: u32) -> bool
-    ensures { result ≡ is_number (wordOf bytes.now countPlace) tensors }
+    ensures { result ≡ is_number (word_of bytes.now count_place) tensors }
 {
     let bits = word_bytes::unsigned32(bytes, COUNT_PLACE);
     (bits < 2147483648) & (bits == tensors)

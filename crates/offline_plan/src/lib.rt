@@ -3,7 +3,7 @@
 ghost use Rattle.std.specs.Prelude.{◌≡◌, length};
 ghost use Rattle.word_lists.specs.WordLists.{with_words};
 ghost use Rattle.offline_rule.specs.Answers.{Writable};
-ghost use Rattle.offline_rule.specs.OfflinePlan.{read_of, offsetsRead, planWords, writeOf, bytesWritten};
+ghost use Rattle.offline_rule.specs.OfflinePlan.{read_of, offsets_read, plan_words, write_of, bytes_written};
 
 use answer::Answer;
 use offline_checks::OFFSETS_PLACE;
@@ -19,7 +19,7 @@ const SUBGRAPHS: i32 = 1;
 // first entries of `offsets`.
 pub fn read(bytes: &[u8], tensors: u32, offsets: &mut [i32]) -> Answer
     ensures answer { result ≡ read_of bytes.now tensors (length offsets.old) }
-    ensures table { offsets.new ≡ offsetsRead bytes.now tensors offsets.old }
+    ensures table { offsets.new ≡ offsets_read bytes.now tensors offsets.old }
 {
     let checked = offline_checks::check(bytes, tensors, offsets.len());
     if checked.number != Answer::DONE {
@@ -33,7 +33,7 @@ pub fn read(bytes: &[u8], tensors: u32, offsets: &mut [i32]) -> Answer
 // Puts the plan's words: the head of three, then the offsets.
 fn put_plan(offsets: &[i32], bytes: &mut [u8])
     requires { Writable offsets.now (length bytes.old) }
-    ensures { bytes.new ≡ with_words bytes.old 0 (planWords offsets.now) }
+    ensures { bytes.new ≡ with_words bytes.old 0 (plan_words offsets.now) }
 {
     let head = [VERSION, SUBGRAPHS, offsets.len() as i32];
     word_lists::write_words(&head, bytes);
@@ -42,8 +42,8 @@ fn put_plan(offsets: &[i32], bytes: &mut [u8])
 
 // Writes a plan of these offsets. Refused: 2, 3, in that order, and nothing changes; done: all zeros, and the first 12 + 4n of `bytes` are the plan.
 pub fn write(offsets: &[i32], bytes: &mut [u8]) -> Answer
-    ensures answer { result ≡ writeOf offsets.now (length bytes.old) }
-    ensures bytes { bytes.new ≡ bytesWritten offsets.now bytes.old }
+    ensures answer { result ≡ write_of offsets.now (length bytes.old) }
+    ensures bytes { bytes.new ≡ bytes_written offsets.now bytes.old }
 {
     let count = offsets.len();
     let too_long = GREATEST_ROWS < count;

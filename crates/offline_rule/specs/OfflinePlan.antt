@@ -3,24 +3,24 @@
 use Rattle.std.specs.Prelude.{ℕ, ◌+◌, ◌*◌, Bool, true, false, not, List, [], ◌∷◌, ◌++◌, ltb, eqb, ℤ, pos, negsuc, length, drop}
 use Rattle.answer.specs.declared.Answer.{Answer}
 use Rattle.answer.specs.Answer as A
-use Rattle.bounded.specs.Causes.{Cause, ◌⇒◌, firstCause}
-use Rattle.request_table.specs.Limits.{greatestRows}
-use Rattle.word_bytes.specs.Bytes.{wordOf}
-use Rattle.word_lists.specs.WordLists.{wordsFrom, with_words}
+use Rattle.bounded.specs.Causes.{Cause, ◌⇒◌, first_cause}
+use Rattle.request_table.specs.Limits.{greatest_rows}
+use Rattle.word_bytes.specs.Bytes.{word_of}
+use Rattle.word_lists.specs.WordLists.{words_from, with_words}
 
 -- A plan of n offsets has 12 + 4n bytes.
-abbrev pub planBytes : ℕ → ℕ
-planBytes n = 12 + n * 4
+abbrev pub plan_bytes : ℕ → ℕ
+plan_bytes n = 12 + n * 4
 
 -- ---- reading
 
 -- Where the third word stands, n.
-abbrev pub countPlace : ℕ
-countPlace = 8
+abbrev pub count_place : ℕ
+count_place = 8
 
 -- Where the offsets start.
-abbrev pub offsetsPlace : ℕ
-offsetsPlace = 12
+abbrev pub offsets_place : ℕ
+offsets_place = 12
 
 -- Whether a signed word is that natural number. "the count is unsigned": a negative word never is.
 unfoldable pub is_number : ℤ → ℕ → Bool
@@ -29,50 +29,50 @@ is_number (negsuc m) n = false
 
 -- "Reading: 18 if under 12 bytes; 19 if n isn't the tensor count asked for (unsigned); 18 if the length isn't 12 + 4n; 2 if over 256; 3." Document
 -- 02, order 5: "Number 2 moves with them, also in the offline plan."
-abbrev pub readCauses : List ℕ → ℕ → ℕ → List (Cause Answer)
-readCauses bytes tensors room =
-    (ltb (length bytes) (planBytes 0) ⇒ A.refused A.wrongLength)
-    ∷ (not (is_number (wordOf bytes countPlace) tensors) ⇒ A.refused A.otherTensorCount)
-    ∷ (not (eqb (length bytes) (planBytes tensors)) ⇒ A.refused A.wrongLength)
-    ∷ (ltb greatestRows tensors ⇒ A.refused A.tooMany)
-    ∷ (ltb room tensors ⇒ A.refused A.tableTooShort)
+abbrev pub read_causes : List ℕ → ℕ → ℕ → List (Cause Answer)
+read_causes bytes tensors room =
+    (ltb (length bytes) (plan_bytes 0) ⇒ A.refused A.wrong_length)
+    ∷ (not (is_number (word_of bytes count_place) tensors) ⇒ A.refused A.other_tensor_count)
+    ∷ (not (eqb (length bytes) (plan_bytes tensors)) ⇒ A.refused A.wrong_length)
+    ∷ (ltb greatest_rows tensors ⇒ A.refused A.too_many)
+    ∷ (ltb room tensors ⇒ A.refused A.table_too_short)
     ∷ []
 
 -- The answer: the first cause that holds, else done, with all zeros.
 unfoldable pub read_of : List ℕ → ℕ → ℕ → Answer
-read_of bytes tensors room = firstCause (readCauses bytes tensors room) (A.doneWith 0)
+read_of bytes tensors room = first_cause (read_causes bytes tensors room) (A.done_with 0)
 
 -- The offsets in the end: where the answer is done, "any offset word is handed on as it stands", one for each tensor, and the rest stays; on every
 -- refusal all stays.
-unfoldable pub offsetsRead : List ℕ → ℕ → List ℤ → List ℤ
-offsetsRead bytes tensors offsets =
+unfoldable pub offsets_read : List ℕ → ℕ → List ℤ → List ℤ
+offsets_read bytes tensors offsets =
     elim (eqb (read_of bytes tensors (length offsets)).number A.done) [
-      | true ↦ wordsFrom bytes offsetsPlace tensors ++ drop tensors offsets
+      | true ↦ words_from bytes offsets_place tensors ++ drop tensors offsets
       | false ↦ offsets
     ]
 
 -- ---- writing
 
 -- The words before n offsets; the first two "are .. written as 1 and 1".
-abbrev pub planHead : ℕ → List ℤ
-planHead n = pos 1 ∷ pos 1 ∷ pos n ∷ []
+abbrev pub plan_head : ℕ → List ℤ
+plan_head n = pos 1 ∷ pos 1 ∷ pos n ∷ []
 
 -- The plan's words.
-abbrev pub planWords : List ℤ → List ℤ
-planWords offsets = planHead (length offsets) ++ offsets
+abbrev pub plan_words : List ℤ → List ℤ
+plan_words offsets = plan_head (length offsets) ++ offsets
 
 -- "Writing: 2, then 3 if the lent bytes are too few".
-abbrev pub writeCauses : List ℤ → ℕ → List (Cause Answer)
-writeCauses offsets room =
-    (ltb greatestRows (length offsets) ⇒ A.refused A.tooMany)
-    ∷ (ltb room (planBytes (length offsets)) ⇒ A.refused A.tableTooShort)
+abbrev pub write_causes : List ℤ → ℕ → List (Cause Answer)
+write_causes offsets room =
+    (ltb greatest_rows (length offsets) ⇒ A.refused A.too_many)
+    ∷ (ltb room (plan_bytes (length offsets)) ⇒ A.refused A.table_too_short)
     ∷ []
 
 -- The answer: the first cause that holds, else done, with all zeros.
-unfoldable pub writeOf : List ℤ → ℕ → Answer
-writeOf offsets room = firstCause (writeCauses offsets room) (A.doneWith 0)
+unfoldable pub write_of : List ℤ → ℕ → Answer
+write_of offsets room = first_cause (write_causes offsets room) (A.done_with 0)
 
 -- The bytes in the end: where the answer is done, the plan's words in front and the rest as it was; on every refusal all stays.
-unfoldable pub bytesWritten : List ℤ → List ℕ → List ℕ
-bytesWritten offsets bytes =
-    elim (eqb (writeOf offsets (length bytes)).number A.done) [ true ↦ with_words bytes 0 (planWords offsets) | false ↦ bytes ]
+unfoldable pub bytes_written : List ℤ → List ℕ → List ℕ
+bytes_written offsets bytes =
+    elim (eqb (write_of offsets (length bytes)).number A.done) [ true ↦ with_words bytes 0 (plan_words offsets) | false ↦ bytes ]

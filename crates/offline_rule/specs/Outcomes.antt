@@ -1,55 +1,55 @@
 -- Law: what reading and writing answer, and when, in document 01's words: each number only where no cause before it holds; else done, with all zeros.
 use Rattle.std.specs.Prelude.{ℕ, ◌+◌, ◌*◌, ◌<◌, ◌≤◌, Bool, true, false, not, List, ◌⊎◌, ◌≡◌, refl, ℤ, pos, length}
 use Rattle.std.proofs.Common.{inl, inr, sym, ap, lt-ltb, le-ltb, eq-eqb, ne_eqb}
-use Rattle.answer.specs.Answer.{refused, doneWith, tooMany, tableTooShort, wrongLength, otherTensorCount}
-use Rattle.bounded.specs.Boolean.{contrary, lt-or-le, same_or_not}
+use Rattle.answer.specs.Answer.{refused, done_with, too_many, table_too_short, wrong_length, other_tensor_count}
+use Rattle.bounded.specs.Boolean.{contrary, lt_or_le, same_or_not}
 use Rattle.bounded.specs.Causes.{given, next, none_left}
-use Rattle.request_table.specs.Limits.{greatestRows}
-use Rattle.word_bytes.specs.Bytes.{wordOf}
-use Rattle.offline_rule.specs.OfflinePlan.{is_number, read_of, writeOf}
-use Rattle.offline_rule.specs.Answers.{number-says, number-of, read-given, write-given}
+use Rattle.request_table.specs.Limits.{greatest_rows}
+use Rattle.word_bytes.specs.Bytes.{word_of}
+use Rattle.offline_rule.specs.OfflinePlan.{is_number, read_of, write_of}
+use Rattle.offline_rule.specs.Answers.{number_says, number_of_lem, read_given, write_given}
 
 module _ (bytes : List ℕ) (tensors room : ℕ) where
   -- What reading may answer.
   pub data ReadOutcome : Type 0 where
-    no-head : length bytes < 12 → read_of bytes tensors room ≡ refused wrongLength → ReadOutcome
-    other-count : 12 ≤ length bytes → (wordOf bytes 8 ≡ pos tensors → ⊥) → read_of bytes tensors room ≡ refused otherTensorCount → ReadOutcome
-    other_length : 12 ≤ length bytes → wordOf bytes 8 ≡ pos tensors → (length bytes ≡ 12 + tensors * 4 → ⊥) → read_of bytes tensors room ≡ refused wrongLength → ReadOutcome
-    too_many : wordOf bytes 8 ≡ pos tensors → length bytes ≡ 12 + tensors * 4 → greatestRows < tensors → read_of bytes tensors room ≡ refused tooMany → ReadOutcome
-    too_short : wordOf bytes 8 ≡ pos tensors → length bytes ≡ 12 + tensors * 4 → tensors ≤ greatestRows → room < tensors
-        → read_of bytes tensors room ≡ refused tableTooShort → ReadOutcome
-    done : wordOf bytes 8 ≡ pos tensors → length bytes ≡ 12 + tensors * 4 → tensors ≤ greatestRows → tensors ≤ room → read_of bytes tensors room ≡ doneWith 0 → ReadOutcome
+    no_head : length bytes < 12 → read_of bytes tensors room ≡ refused wrong_length → ReadOutcome
+    other_count : 12 ≤ length bytes → (word_of bytes 8 ≡ pos tensors → ⊥) → read_of bytes tensors room ≡ refused other_tensor_count → ReadOutcome
+    other_length : 12 ≤ length bytes → word_of bytes 8 ≡ pos tensors → (length bytes ≡ 12 + tensors * 4 → ⊥) → read_of bytes tensors room ≡ refused wrong_length → ReadOutcome
+    too_many_case : word_of bytes 8 ≡ pos tensors → length bytes ≡ 12 + tensors * 4 → greatest_rows < tensors → read_of bytes tensors room ≡ refused too_many → ReadOutcome
+    too_short : word_of bytes 8 ≡ pos tensors → length bytes ≡ 12 + tensors * 4 → tensors ≤ greatest_rows → room < tensors
+        → read_of bytes tensors room ≡ refused table_too_short → ReadOutcome
+    done : word_of bytes 8 ≡ pos tensors → length bytes ≡ 12 + tensors * 4 → tensors ≤ greatest_rows → tensors ≤ room → read_of bytes tensors room ≡ done_with 0 → ReadOutcome
 
   -- So it is answered.
-  pub read-outcome : ReadOutcome
-  read-outcome = go (lt-or-le (length bytes) 12) (is_number (wordOf bytes 8) tensors) refl (same_or_not (length bytes) (12 + tensors * 4)) (lt-or-le greatestRows tensors) (lt-or-le room tensors)
+  pub read_outcome : ReadOutcome
+  read_outcome = go (lt_or_le (length bytes) 12) (is_number (word_of bytes 8) tensors) refl (same_or_not (length bytes) (12 + tensors * 4)) (lt_or_le greatest_rows tensors) (lt_or_le room tensors)
     where
-      go : (length bytes < 12) ⊎ (12 ≤ length bytes) → (b : Bool) → is_number (wordOf bytes 8) tensors ≡ b
-          → (length bytes ≡ 12 + tensors * 4) ⊎ (length bytes ≡ 12 + tensors * 4 → ⊥) → (greatestRows < tensors) ⊎ (tensors ≤ greatestRows)
+      go : (length bytes < 12) ⊎ (12 ≤ length bytes) → (b : Bool) → is_number (word_of bytes 8) tensors ≡ b
+          → (length bytes ≡ 12 + tensors * 4) ⊎ (length bytes ≡ 12 + tensors * 4 → ⊥) → (greatest_rows < tensors) ⊎ (tensors ≤ greatest_rows)
           → (room < tensors) ⊎ (tensors ≤ room) → ReadOutcome
-      go (inl a) b e c d f = no-head a (sym (read-given bytes tensors room (given (lt-ltb _ _ a))))
-      go (inr a) false e c d f = other-count a (λ q. contrary (number-of _ _ q) e) (sym (read-given bytes tensors room (next (le-ltb _ _ a) (given (ap not e)))))
+      go (inl a) b e c d f = no_head a (sym (read_given bytes tensors room (given (lt-ltb _ _ a))))
+      go (inr a) false e c d f = other_count a (λ q. contrary (number_of_lem _ _ q) e) (sym (read_given bytes tensors room (next (le-ltb _ _ a) (given (ap not e)))))
       go (inr a) true e (inr c) d f =
-          other_length a (number-says _ _ e) c (sym (read-given bytes tensors room (next (le-ltb _ _ a) (next (ap not e) (given (ap not (ne_eqb _ _ c)))))))
+          other_length a (number_says _ _ e) c (sym (read_given bytes tensors room (next (le-ltb _ _ a) (next (ap not e) (given (ap not (ne_eqb _ _ c)))))))
       go (inr a) true e (inl c) (inl d) f =
-          too_many (number-says _ _ e) c d (sym (read-given bytes tensors room (next (le-ltb _ _ a) (next (ap not e) (next (ap not (eq-eqb _ _ c)) (given (lt-ltb _ _ d)))))))
+          too_many_case (number_says _ _ e) c d (sym (read_given bytes tensors room (next (le-ltb _ _ a) (next (ap not e) (next (ap not (eq-eqb _ _ c)) (given (lt-ltb _ _ d)))))))
       go (inr a) true e (inl c) (inr d) (inl f) =
-          too_short (number-says _ _ e) c d f (sym (read-given bytes tensors room (next (le-ltb _ _ a) (next (ap not e) (next (ap not (eq-eqb _ _ c)) (next (le-ltb _ _ d) (given (lt-ltb _ _ f))))))))
+          too_short (number_says _ _ e) c d f (sym (read_given bytes tensors room (next (le-ltb _ _ a) (next (ap not e) (next (ap not (eq-eqb _ _ c)) (next (le-ltb _ _ d) (given (lt-ltb _ _ f))))))))
       go (inr a) true e (inl c) (inr d) (inr f) =
-          done (number-says _ _ e) c d f (sym (read-given bytes tensors room (next (le-ltb _ _ a) (next (ap not e) (next (ap not (eq-eqb _ _ c)) (next (le-ltb _ _ d) (next (le-ltb _ _ f) none_left)))))))
+          done (number_says _ _ e) c d f (sym (read_given bytes tensors room (next (le-ltb _ _ a) (next (ap not e) (next (ap not (eq-eqb _ _ c)) (next (le-ltb _ _ d) (next (le-ltb _ _ f) none_left)))))))
 
 module _ (offsets : List ℤ) (room : ℕ) where
   -- What writing may answer.
   pub data WriteOutcome : Type 0 where
-    too-many-offsets : greatestRows < length offsets → writeOf offsets room ≡ refused tooMany → WriteOutcome
-    too-few-bytes : length offsets ≤ greatestRows → room < 12 + length offsets * 4 → writeOf offsets room ≡ refused tableTooShort → WriteOutcome
-    written : length offsets ≤ greatestRows → 12 + length offsets * 4 ≤ room → writeOf offsets room ≡ doneWith 0 → WriteOutcome
+    too_many_offsets : greatest_rows < length offsets → write_of offsets room ≡ refused too_many → WriteOutcome
+    too_few_bytes : length offsets ≤ greatest_rows → room < 12 + length offsets * 4 → write_of offsets room ≡ refused table_too_short → WriteOutcome
+    written : length offsets ≤ greatest_rows → 12 + length offsets * 4 ≤ room → write_of offsets room ≡ done_with 0 → WriteOutcome
 
   -- So it is answered.
-  pub write-outcome : WriteOutcome
-  write-outcome = go (lt-or-le greatestRows (length offsets)) (lt-or-le room (12 + length offsets * 4))
+  pub write_outcome : WriteOutcome
+  write_outcome = go (lt_or_le greatest_rows (length offsets)) (lt_or_le room (12 + length offsets * 4))
     where
-      go : (greatestRows < length offsets) ⊎ (length offsets ≤ greatestRows) → (room < 12 + length offsets * 4) ⊎ (12 + length offsets * 4 ≤ room) → WriteOutcome
-      go (inl a) b = too-many-offsets a (sym (write-given offsets room (given (lt-ltb _ _ a))))
-      go (inr a) (inl b) = too-few-bytes a b (sym (write-given offsets room (next (le-ltb _ _ a) (given (lt-ltb _ _ b)))))
-      go (inr a) (inr b) = written a b (sym (write-given offsets room (next (le-ltb _ _ a) (next (le-ltb _ _ b) none_left))))
+      go : (greatest_rows < length offsets) ⊎ (length offsets ≤ greatest_rows) → (room < 12 + length offsets * 4) ⊎ (12 + length offsets * 4 ≤ room) → WriteOutcome
+      go (inl a) b = too_many_offsets a (sym (write_given offsets room (given (lt-ltb _ _ a))))
+      go (inr a) (inl b) = too_few_bytes a b (sym (write_given offsets room (next (le-ltb _ _ a) (given (lt-ltb _ _ b)))))
+      go (inr a) (inr b) = written a b (sym (write_given offsets room (next (le-ltb _ _ a) (next (le-ltb _ _ b) none_left))))

@@ -1,7 +1,7 @@
 // The checks 1, 2, 3 and 5 of the lives (document 01, "The desk's order of checks", Lives), and the limits of the operator list. All is total: any list,
 // any numbers of operators and tensors, any room.
 ghost use Rattle.std.specs.Prelude.{◌≡◌};
-ghost use Rattle.lifetime_rule.specs.FromUses.{sizesOf, list_of};
+ghost use Rattle.lifetime_rule.specs.FromUses.{sizes_of, list_of};
 
 use answer::Answer;
 use use_rows::USE_WORDS;
@@ -17,7 +17,7 @@ pub const LIFETIME_WORDS: usize = 2;
 
 // The checks 1, 2 and 3: the list's length, its numbers and the room for the lives.
 fn check_sizes(operators: u32, tensors: u32, uses: &[i32], room: usize) -> Answer
-    ensures { result ≡ sizesOf operators tensors uses.now room }
+    ensures { result ≡ sizes_of operators tensors uses.now room }
 {
     let count = uses.len() / USE_WORDS;
     let ragged = uses.len() % USE_WORDS != 0;

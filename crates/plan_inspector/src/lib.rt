@@ -1,10 +1,10 @@
 // The plan inspector: judges a plan that anyone may have proposed, one offset for each row of the request table (document 01, "The desk's order of
 // checks"). All is read where it lies; nothing is written.
 ghost use Rattle.std.specs.Prelude.{◌≤◌, ◌≡◌};
-ghost use Rattle.request_table.specs.Buffers.{bufferAt};
-ghost use Rattle.request_table.specs.Limits.{grid as gridOf, greatestRows};
+ghost use Rattle.request_table.specs.Buffers.{buffer_at};
+ghost use Rattle.request_table.specs.Limits.{grid as gridOf, greatest_rows};
 ghost use Rattle.request_table.specs.Table.{rows as rows_of};
-ghost use Rattle.inspection_rule.specs.Inspect.{proposed, proposedNeed, pair_of, proposalOf, inspectOf};
+ghost use Rattle.inspection_rule.specs.Inspect.{proposed, proposed_need, pair_of, proposal_of, inspect_of};
 
 use answer::Answer;
 use request_table::Buffer;
@@ -12,7 +12,7 @@ use units::Row;
 
 // The row's buffer at its proposed offset.
 fn buffer_of(grid: u32, table: &[i32], offsets: &[i32], row: Row) -> Buffer
-    ensures { result ≡ bufferAt grid table.now row.0 (proposed offsets.now row.0) }
+    ensures { result ≡ buffer_at grid table.now row.0 (proposed offsets.now row.0) }
 {
     buffers::buffer_at(
         grid,
@@ -23,8 +23,8 @@ fn buffer_of(grid: u32, table: &[i32], offsets: &[i32], row: Row) -> Buffer
 
 // The check 10: both scans end at once, at the first pair of rows that collide, which becomes the answer's two places.
 fn judge_pairs(grid: u32, table: &[i32], offsets: &[i32], need: u64) -> Answer
-    requires table_bound { rows_of table.now ≤ greatestRows }
-    requires need_value { need ≡ proposedNeed grid table.now offsets.now }
+    requires table_bound { rows_of table.now ≤ greatest_rows }
+    requires need_value { need ≡ proposed_need grid table.now offsets.now }
     ensures { result ≡ pair_of grid table.now offsets.now }
 {
     let n = table.len() / request_table::ROW_WORDS;
@@ -47,8 +47,8 @@ fn judge_pairs(grid: u32, table: &[i32], offsets: &[i32], need: u64) -> Answer
 
 // The checks 8, 9, 7 and 10. Each is worked out before the first is told, so that their order stands in one place.
 fn judge_offsets(grid: u32, table: &[i32], space: u32, offsets: &[i32]) -> Answer
-    requires { rows_of table.now ≤ greatestRows }
-    ensures { result ≡ proposalOf grid table.now space offsets.now }
+    requires { rows_of table.now ≤ greatest_rows }
+    ensures { result ≡ proposal_of grid table.now space offsets.now }
 {
     let n = table.len() / request_table::ROW_WORDS;
     let shifted = proposals::lowest_moved(table, offsets);
@@ -79,7 +79,7 @@ fn judge_offsets(grid: u32, table: &[i32], space: u32, offsets: &[i32]) -> Answe
 
 // The inspector on any grid.
 pub fn judge(grid: u32, requests: &[i32], space: u32, offsets: &[i32]) -> Answer
-    ensures { result ≡ inspectOf grid requests.now space offsets.now }
+    ensures { result ≡ inspect_of grid requests.now space offsets.now }
 {
     let checked = requests::check(grid, requests, space, offsets.len());
     if checked.number != Answer::DONE {
@@ -90,7 +90,7 @@ pub fn judge(grid: u32, requests: &[i32], space: u32, offsets: &[i32]) -> Answer
 
 // Document 01's inspector. Refused: 1, 2, 3, 4, 5, 8, 9, 7, 10, in that order; accepted: the need.
 pub fn inspect(requests: &[i32], space: u32, offsets: &[i32]) -> Answer
-    ensures { result ≡ inspectOf gridOf requests.now space offsets.now }
+    ensures { result ≡ inspect_of gridOf requests.now space offsets.now }
 {
     judge(requests::GRID, requests, space, offsets)
 }

@@ -2,29 +2,29 @@
 use Rattle.std.specs.Prelude.{ℕ, ◌≤◌, Bool, true, false, List, ◌≡◌, refl, leb, length}
 use Rattle.std.proofs.Common.{arith, leb-true}
 use Rattle.bounded.specs.Boolean.{both}
-use Rattle.request_table.specs.Limits.{greatestRows}
-use Rattle.text_pieces.specs.Put.{Put, Room, put-at-start}
-use Rattle.text_rule.specs.Text.{greatestText}
-use Rattle.plan_text.specs.Written.{hasRoom, writtenLength, writtenInto}
+use Rattle.request_table.specs.Limits.{greatest_rows}
+use Rattle.text_pieces.specs.Put.{Put, Room, put_at_start}
+use Rattle.text_rule.specs.Text.{greatest_text}
+use Rattle.plan_text.specs.Written.{has_room, written_length, written_into}
 
 -- Where there is room, the offsets are no more than a plan has, and the bytes no fewer than any text has.
-pub room_says : (n room : ℕ) → hasRoom n room ≡ true → (n ≤ greatestRows) × (greatestText ≤ room)
-unfolding hasRoom
+pub room_says : (n room : ℕ) → has_room n room ≡ true → (n ≤ greatest_rows) × (greatest_text ≤ room)
+unfolding has_room
 room_says n room e =
-    let b = both (leb n greatestRows) (leb greatestText room) e in
-    (leb-true n greatestRows b.0, leb-true greatestText room b.1)
+    let b = both (leb n greatest_rows) (leb greatest_text room) e in
+    (leb-true n greatest_rows b.0, leb-true greatest_text room b.1)
 
 -- There it holds any piece that is no longer than a text can be.
-pub room_for : (n : ℕ) (t piece : List ℕ) → hasRoom n (length t) ≡ true → length piece ≤ greatestText → Room t 0 piece
+pub room_for : (n : ℕ) (t piece : List ℕ) → has_room n (length t) ≡ true → length piece ≤ greatest_text → Room t 0 piece
 room_for n t piece e l = record { holds = omega (arith, l, (room_says n (length t) e).1) }
 
 -- With room, the text stands in front.
-pub whole-written : {roomy : Bool} {t u text : List ℕ} {e : ℕ} → roomy ≡ true → Put t u 0 e text
-    → (e ≡ writtenLength roomy text) × (u ≡ writtenInto roomy text t)
-unfolding writtenLength writtenInto
-whole-written r x = rw r (put-at-start x)
+pub whole_written : {roomy : Bool} {t u text : List ℕ} {e : ℕ} → roomy ≡ true → Put t u 0 e text
+    → (e ≡ written_length roomy text) × (u ≡ written_into roomy text t)
+unfolding written_length written_into
+whole_written r x = rw r (put_at_start x)
 
 -- With none, nothing changes.
-pub nothing_written : {roomy : Bool} (t text : List ℕ) → roomy ≡ false → (0 ≡ writtenLength roomy text) × (t ≡ writtenInto roomy text t)
-unfolding writtenLength writtenInto
+pub nothing_written : {roomy : Bool} (t text : List ℕ) → roomy ≡ false → (0 ≡ written_length roomy text) × (t ≡ written_into roomy text t)
+unfolding written_length written_into
 nothing_written t text r = rw r (refl, refl)

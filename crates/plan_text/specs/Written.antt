@@ -1,17 +1,17 @@
 -- What writing a text leaves in lent bytes: the text in front, the rest as it was. Nothing is written where the bytes are fewer than the longest text has
 -- or the offsets more than a plan has, so that no text is ever cut.
 use Rattle.std.specs.Prelude.{ℕ, Bool, true, false, ◌&&◌, List, ◌++◌, leb, length, drop}
-use Rattle.request_table.specs.Limits.{greatestRows}
-use Rattle.text_rule.specs.Text.{greatestText}
+use Rattle.request_table.specs.Limits.{greatest_rows}
+use Rattle.text_rule.specs.Text.{greatest_text}
 
 -- Whether lent bytes have room for any text over so many offsets.
-unfoldable pub hasRoom : ℕ → ℕ → Bool
-hasRoom n room = leb n greatestRows && leb greatestText room
+unfoldable pub has_room : ℕ → ℕ → Bool
+has_room n room = leb n greatest_rows && leb greatest_text room
 
 -- The length of the text written; 0 where there is no room.
-unfoldable pub writtenLength : Bool → List ℕ → ℕ
-writtenLength roomy text = elim roomy [ true ↦ length text | false ↦ 0 ]
+unfoldable pub written_length : Bool → List ℕ → ℕ
+written_length roomy text = elim roomy [ true ↦ length text | false ↦ 0 ]
 
 -- The lent bytes in the end.
-unfoldable pub writtenInto : Bool → List ℕ → List ℕ → List ℕ
-writtenInto roomy text bytes = elim roomy [ true ↦ text ++ drop (length text) bytes | false ↦ bytes ]
+unfoldable pub written_into : Bool → List ℕ → List ℕ → List ℕ
+written_into roomy text bytes = elim roomy [ true ↦ text ++ drop (length text) bytes | false ↦ bytes ]

@@ -10,6 +10,6 @@ use Rattle.request_table.specs.declared.Request.{Request}
 use Rattle.inspection_rule.specs.Inspect.{proposed, moved}
 
 -- A row that was read and the offset that was read for it.
-pub moved-is : (t o : List ℤ) (r : ℕ) {x : Request} {place : ℕ} → x ≡ request t r → place ≡ proposed o r → x.fixed && not (eqb place x.offset.0) ≡ moved t o r
+pub moved_is : (t o : List ℤ) (r : ℕ) {x : Request} {place : ℕ} → x ≡ request t r → place ≡ proposed o r → x.fixed && not (eqb place x.offset.0) ≡ moved t o r
 unfolding moved
-moved-is t o r p q = ap₂ (λ (x : Request) (place : ℕ). x.fixed && not (eqb place x.offset.0)) p q
+moved_is t o r p q = ap₂ (λ (x : Request) (place : ℕ). x.fixed && not (eqb place x.offset.0)) p q

@@ -1,9 +1,9 @@
 // A proposed plan, row by row (document 01, "The desk's order of checks"): the offset of a row, the lowest fixed row that was moved and the lowest row
 // whose offset is off the grid. All is total: any table, any proposal, any row, any grid.
 ghost use Rattle.std.specs.Prelude.{◌<◌, ◌^◌, ◌≡◌};
-ghost use Rattle.bounded.specs.First.{firstIn};
+ghost use Rattle.bounded.specs.First.{first_in};
 ghost use Rattle.request_table.specs.Table.{rows as rows_of};
-ghost use Rattle.inspection_rule.specs.Inspect.{proposed, moved, offGrid};
+ghost use Rattle.inspection_rule.specs.Inspect.{proposed, moved, off_grid};
 
 use units::{Offset, Row};
 
@@ -28,7 +28,7 @@ fn is_moved(table: &[i32], offsets: &[i32], row: Row) -> bool
 
 // The lowest fixed row that was moved, else the number of rows.
 pub fn lowest_moved(table: &[i32], offsets: &[i32]) -> Row
-    ensures { result.0 ≡ firstIn (moved table.now offsets.now) 0 (rows_of table.now) }
+    ensures { result.0 ≡ first_in (moved table.now offsets.now) 0 (rows_of table.now) }
 {
     let n = table.len() / request_table::ROW_WORDS;
     let mut row = Row(0);
@@ -43,14 +43,14 @@ pub fn lowest_moved(table: &[i32], offsets: &[i32]) -> Row
 
 // Whether the proposed offset is negative or not a multiple of the grid.
 fn is_off_grid(grid: u32, offsets: &[i32], row: Row) -> bool
-    ensures { result ≡ offGrid grid offsets.now row.0 }
+    ensures { result ≡ off_grid grid offsets.now row.0 }
 {
     words::is_negative(offsets, row.0) | !buffers::on_grid(grid, proposed_at(offsets, row))
 }
 
 // The lowest of so many rows with such an offset, else their number.
 pub fn lowest_off_grid(grid: u32, offsets: &[i32], count: usize) -> Row
-    ensures { result.0 ≡ firstIn (offGrid grid offsets.now) 0 count }
+    ensures { result.0 ≡ first_in (off_grid grid offsets.now) 0 count }
 {
     let mut row = Row(0);
     while row.0 < count {

@@ -1,13 +1,13 @@
 // The need of a proposed plan, in 64 bits. All is total: any grid, any table, any offsets.
 ghost use Rattle.std.specs.Prelude.{max, ◌≡◌};
-ghost use Rattle.request_table.specs.Buffers.{bufferAt, endOrZero};
-ghost use Rattle.inspection_rule.specs.Inspect.{proposed, proposedNeed};
+ghost use Rattle.request_table.specs.Buffers.{buffer_at, end_or_zero};
+ghost use Rattle.inspection_rule.specs.Inspect.{proposed, proposed_need};
 
 use units::Row;
 
 // The end of the row's span, in 64 bits, which no proposed offset and no size can pass; an empty row counts for nothing.
 fn end_of(grid: u32, table: &[i32], offsets: &[i32], row: Row) -> u64
-    ensures { result ≡ endOrZero (bufferAt grid table.now row.0 (proposed offsets.now row.0)) }
+    ensures { result ≡ end_or_zero (buffer_at grid table.now row.0 (proposed offsets.now row.0)) }
 {
     let request = request_rows::request_at(table, row);
     let length = alignment::round_up(grid, request.size);
@@ -30,7 +30,7 @@ fn larger(a: u64, b: u64) -> u64
 
 // The need of the proposed plan: the greatest end of a nonempty row.
 pub fn need_of(grid: u32, table: &[i32], offsets: &[i32]) -> u64
-    ensures { result ≡ proposedNeed grid table.now offsets.now }
+    ensures { result ≡ proposed_need grid table.now offsets.now }
 {
     let n = table.len() / request_table::ROW_WORDS;
     let mut need = 0;

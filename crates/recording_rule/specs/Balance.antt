@@ -3,52 +3,52 @@ use Rattle.std.specs.Prelude.{ℕ, ◌+◌, ◌<◌, ◌≤◌, true, not, ◌�
 use Rattle.std.proofs.Common.{arith, get_or-set_same, get_or-set_other}
 use borrow.Author.Tests.{eqb-true, eq-eqb, le-ltb, ltb-false, not-true}
 use Rattle.bounded.specs.Boolean.{both, both_hold}
-use Rattle.bounded.specs.First.{holdsBelow, none-holds, none_found}
-use Rattle.bounded.specs.Sums.{sum-set, entry-within}
-use Rattle.recording_rule.specs.Ledger.{kindCount, nothingRecorded, ofKind, usedBytes, totalUsed, passesUsed, balanced, withKeep, withKeepOf}
+use Rattle.bounded.specs.First.{holds_below, none_holds, none_found}
+use Rattle.bounded.specs.Sums.{sum_set, entry_within}
+use Rattle.recording_rule.specs.Ledger.{kind_count, nothing_recorded, of_kind, used_bytes, total_used, passes_used, balanced, with_keep, with_keep_of}
 use Rattle.recording_rule.specs.declared.Ledger.{Ledger}
 
 -- A balanced ledger: the kinds' used bytes add up to what the tail has taken, and no kind's requested bytes pass its used bytes.
 pub record Balanced (l : Ledger) (taken : ℕ) : Type 0 where
-  pub total : totalUsed l.kinds ≡ taken
-  pub within : (kind : ℕ) → kind < kindCount → (ofKind l kind).requested ≤ (ofKind l kind).used
+  pub total : total_used l.kinds ≡ taken
+  pub within : (kind : ℕ) → kind < kind_count → (of_kind l kind).requested ≤ (of_kind l kind).used
 
 module _ (l : Ledger) (taken : ℕ) where
   -- What the test says,
-  pub balanced-says : balanced l taken ≡ true → Balanced l taken
+  pub balanced_says : balanced l taken ≡ true → Balanced l taken
   unfolding balanced
-  balanced-says e =
-      let x = both (eqb (totalUsed l.kinds) taken) (not (holdsBelow (passesUsed l) kindCount)) e in
+  balanced_says e =
+      let x = both (eqb (total_used l.kinds) taken) (not (holds_below (passes_used l) kind_count)) e in
       record {
         total = eqb-true _ _ x.0;
-        within = λ kind h. ltb-false _ _ (none-holds (passesUsed l) kindCount (not-true _ x.1) kind h);
+        within = λ kind h. ltb-false _ _ (none_holds (passes_used l) kind_count (not-true _ x.1) kind h);
       }
 
   -- and the other way.
-  pub balanced-of : Balanced l taken → balanced l taken ≡ true
+  pub balanced_of : Balanced l taken → balanced l taken ≡ true
   unfolding balanced
-  balanced-of b =
+  balanced_of b =
       both_hold _ _
       (eq-eqb _ _ b.total)
-      (rw (none_found (passesUsed l) kindCount (λ kind h. le-ltb _ _ (b.within kind h))))
+      (rw (none_found (passes_used l) kind_count (λ kind h. le-ltb _ _ (b.within kind h))))
 
 -- No kind has more used bytes than all.
-pub used-within : (l : Ledger) (kind : ℕ) → kind < length l.kinds → (ofKind l kind).used ≤ totalUsed l.kinds
-unfolding totalUsed
-used-within l kind h = entry-within usedBytes nothingRecorded l.kinds kind h
+pub used_within : (l : Ledger) (kind : ℕ) → kind < length l.kinds → (of_kind l kind).used ≤ total_used l.kinds
+unfolding total_used
+used_within l kind h = entry_within used_bytes nothing_recorded l.kinds kind h
 
 -- ---- one keep more
 
 module _ (l : Ledger) (kind size gap : ℕ) (h : kind < length l.kinds) where
   -- The total grows by its size and gap.
-  pub total-with : totalUsed (withKeepOf l kind size gap).kinds ≡ totalUsed l.kinds + (size + gap)
-  unfolding totalUsed
-  total-with = omega (arith, sum-set usedBytes nothingRecorded l.kinds kind (withKeep (ofKind l kind) size gap) h)
+  pub total_with : total_used (with_keep_of l kind size gap).kinds ≡ total_used l.kinds + (size + gap)
+  unfolding total_used
+  total_with = omega (arith, sum_set used_bytes nothing_recorded l.kinds kind (with_keep (of_kind l kind) size gap) h)
 
   -- It is recorded of its kind,
-  pub with-same : ofKind (withKeepOf l kind size gap) kind ≡ withKeep (ofKind l kind) size gap
-  with-same = get_or-set_same l.kinds kind (withKeep (ofKind l kind) size gap) nothingRecorded h
+  pub with_same : of_kind (with_keep_of l kind size gap) kind ≡ with_keep (of_kind l kind) size gap
+  with_same = get_or-set_same l.kinds kind (with_keep (of_kind l kind) size gap) nothing_recorded h
 
   -- and of no other.
-  pub with-other : (other : ℕ) → (other ≡ kind → ⊥) → ofKind (withKeepOf l kind size gap) other ≡ ofKind l other
-  with-other other n = get_or-set_other l.kinds kind other (withKeep (ofKind l kind) size gap) nothingRecorded n
+  pub with_other : (other : ℕ) → (other ≡ kind → ⊥) → of_kind (with_keep_of l kind size gap) other ≡ of_kind l other
+  with_other other n = get_or-set_other l.kinds kind other (with_keep (of_kind l kind) size gap) nothing_recorded n

@@ -4,98 +4,98 @@
 use Rattle.std.specs.Prelude.{ℕ, ◌<◌, ◌≤◌, Bool, true, false, List, ◌++◌, ◌⊎◌, ◌≡◌, refl, ℤ, length, drop}
 use Rattle.std.proofs.Common.{inl, inr, ◌∙◌, subst, arith}
 use Rattle.std.proofs.Math.Path.{sym, ap}
-use Rattle.answer.specs.Answer.{number_of as answerNumber, doneWith, refusedAt}
+use Rattle.answer.specs.Answer.{number_of as answer_number, done_with, refused_at}
 use Rattle.answer.specs.declared.Answer.{Answer}
-use Rattle.bounded.specs.Boolean.{contrary, lt-or-le, same_or_not}
+use Rattle.bounded.specs.Boolean.{contrary, lt_or_le, same_or_not}
 use Rattle.bounded.specs.Lowest.{Lowest}
-use Rattle.greedy_rule.specs.Answers.{done-says, done-of}
-use Rattle.greedy_rule.specs.Greedy.{greedyPlan}
-use Rattle.greedy_rule.specs.Plan.{plan_of, greedyNeed}
-use Rattle.text_rule.specs.Text.{planText, answerText, refusedText, badSheetText, greatestText}
-use Rattle.text_rule.specs.TextCases.{done-text, refused-text}
+use Rattle.greedy_rule.specs.Answers.{done_says, done_of}
+use Rattle.greedy_rule.specs.Greedy.{greedy_plan}
+use Rattle.greedy_rule.specs.Plan.{plan_of, greedy_need}
+use Rattle.text_rule.specs.Text.{plan_text, answer_text, refused_text, bad_sheet_text, greatest_text}
+use Rattle.text_rule.specs.TextCases.{done_text, refused_text_lem}
 use Rattle.request_table.specs.Limits.{grid}
 use Rattle.request_table.specs.Table.{rows}
-use Rattle.shape_rule.specs.ShapeOutcomes.{ShapesOutcome, lowest-bad, all-good, shapes-outcome}
-use Rattle.shape_rule.specs.ShapeTable.{tensorSize}
-use Rattle.shape_rule.specs.Sized.{sizedTable}
+use Rattle.shape_rule.specs.ShapeOutcomes.{ShapesOutcome, lowest_bad, all_good, shapes_outcome}
+use Rattle.shape_rule.specs.ShapeTable.{tensor_size}
+use Rattle.shape_rule.specs.Sized.{sized_table}
 use Rattle.shape_rule.specs.SizedRows.{sized_rows}
-use Rattle.sheet_rule.specs.GoodSheets.{Form, requests, shapes, Good, GoodSheet, well-says, well-of}
-use Rattle.sheet_rule.specs.ReadSheets.{rows_are, shapes-are}
-use Rattle.sheet_rule.specs.Sheet.{wellFormed, rowCount, sheetWords, sheetSpace}
-use Rattle.reply_rule.specs.Replies.{shapes-refused, shapes-sized, table-reply, shapes-reply, bad-reply}
-use Rattle.reply_rule.specs.Reply.{tableText, replyText, replyOf, textAfter}
-use Rattle.text_pieces.specs.Replied.{no_room, reply-stands}
+use Rattle.sheet_rule.specs.GoodSheets.{Form, requests, shapes, Good, GoodSheet, well_says, well_of}
+use Rattle.sheet_rule.specs.ReadSheets.{rows_are, shapes_are}
+use Rattle.sheet_rule.specs.Sheet.{well_formed, row_count, sheet_words, sheet_space}
+use Rattle.reply_rule.specs.Replies.{shapes_refused, shapes_sized, table_reply, shapes_reply, bad_reply}
+use Rattle.reply_rule.specs.Reply.{table_text, reply_text, reply_of, text_after}
+use Rattle.text_pieces.specs.Replied.{no_room, reply_stands}
 use Rattle.text_pieces.specs.declared.Reply.TheVariants.{Text, NoRoom}
 
 module _ (sheet text : List ℕ) where
   -- The reply is this text, in front of the lent bytes.
   pub record Told (words : List ℕ) : Type 0 where
-    pub reply-is : replyOf sheet (length text) ≡ Text (length words)
-    pub bytes-are : textAfter sheet text ≡ words ++ drop (length words) text
+    pub reply_is : reply_of sheet (length text) ≡ Text (length words)
+    pub bytes_are : text_after sheet text ≡ words ++ drop (length words) text
 
   -- The request table that a sheet gives: its rows in version 1; in version 2, where no shape is bad, the rows that the shapes' sizes make.
   pub data TableOf : List ℤ → Type 0 where
-    of-requests : GoodSheet sheet 1 16 → TableOf (sheetWords sheet)
-    of-shapes : GoodSheet sheet 2 52 → ((r : ℕ) → r < rowCount sheet → (tensorSize (sheetWords sheet) r).number ≡ 0) → TableOf (sizedTable (sheetWords sheet))
+    of_requests : GoodSheet sheet 1 16 → TableOf (sheet_words sheet)
+    of_shapes : GoodSheet sheet 2 52 → ((r : ℕ) → r < row_count sheet → (tensor_size (sheet_words sheet) r).number ≡ 0) → TableOf (sized_table (sheet_words sheet))
 
   -- What may be replied.
   pub data Outcome : Type 0 where
-    too-few-bytes : length text < greatestText → replyOf sheet (length text) ≡ NoRoom → textAfter sheet text ≡ text → Outcome
-    bad-sheet : greatestText ≤ length text → (Good sheet → ⊥) → Told badSheetText → Outcome
-    bad-shape : (a : ℕ) → greatestText ≤ length text → GoodSheet sheet 2 52 → Lowest (λ r. (tensorSize (sheetWords sheet) r).number ≡ 0 → ⊥) (rowCount sheet) a
-        → Told (refusedText (refusedAt (tensorSize (sheetWords sheet) a).number a)) → Outcome
-    planned : (t : List ℤ) → greatestText ≤ length text → TableOf t → plan_of grid t (sheetSpace sheet) (rowCount sheet) ≡ doneWith (greedyNeed grid t)
-        → Told (planText (greedyNeed grid t) (greedyPlan grid t) (rowCount sheet)) → Outcome
-    refused : (t : List ℤ) → greatestText ≤ length text → TableOf t → ((plan_of grid t (sheetSpace sheet) (rowCount sheet)).number ≡ 0 → ⊥)
-        → Told (refusedText (plan_of grid t (sheetSpace sheet) (rowCount sheet))) → Outcome
+    too_few_bytes : length text < greatest_text → reply_of sheet (length text) ≡ NoRoom → text_after sheet text ≡ text → Outcome
+    bad_sheet : greatest_text ≤ length text → (Good sheet → ⊥) → Told bad_sheet_text → Outcome
+    bad_shape_case : (a : ℕ) → greatest_text ≤ length text → GoodSheet sheet 2 52 → Lowest (λ r. (tensor_size (sheet_words sheet) r).number ≡ 0 → ⊥) (row_count sheet) a
+        → Told (refused_text (refused_at (tensor_size (sheet_words sheet) a).number a)) → Outcome
+    planned : (t : List ℤ) → greatest_text ≤ length text → TableOf t → plan_of grid t (sheet_space sheet) (row_count sheet) ≡ done_with (greedy_need grid t)
+        → Told (plan_text (greedy_need grid t) (greedy_plan grid t) (row_count sheet)) → Outcome
+    refused : (t : List ℤ) → greatest_text ≤ length text → TableOf t → ((plan_of grid t (sheet_space sheet) (row_count sheet)).number ≡ 0 → ⊥)
+        → Told (refused_text (plan_of grid t (sheet_space sheet) (row_count sheet))) → Outcome
 
-  told : {words : List ℕ} → greatestText ≤ length text → words ≡ replyText sheet → Told words
+  told : {words : List ℕ} → greatest_text ≤ length text → words ≡ reply_text sheet → Told words
   told l e =
-      let s = reply-stands greatestText (replyText sheet) text l record { count-is = refl; bytes-are = refl } in
-      record { reply-is = sym s.0 ∙ ap (λ (xs : List ℕ). Text (length xs)) (sym e); bytes-are = sym s.1 ∙ ap (λ (xs : List ℕ). xs ++ drop (length xs) text) (sym e) }
+      let s = reply_stands greatest_text (reply_text sheet) text l record { count_is = refl; bytes_are = refl } in
+      record { reply_is = sym s.0 ∙ ap (λ (xs : List ℕ). Text (length xs)) (sym e); bytes_are = sym s.1 ∙ ap (λ (xs : List ℕ). xs ++ drop (length xs) text) (sym e) }
 
-  module _ (l : greatestText ≤ length text) (t : List ℤ) (rows-t : rows t ≡ rowCount sheet) (of : TableOf t) (e : tableText t (sheetSpace sheet) ≡ replyText sheet) where
+  module _ (l : greatest_text ≤ length text) (t : List ℤ) (rows_t : rows t ≡ row_count sheet) (of : TableOf t) (e : table_text t (sheet_space sheet) ≡ reply_text sheet) where
     answer : Answer
-    answer = plan_of grid t (sheetSpace sheet) (rowCount sheet)
+    answer = plan_of grid t (sheet_space sheet) (row_count sheet)
 
-    table : answerText answer (greedyPlan grid t) (rowCount sheet) ≡ replyText sheet
-    unfolding answer tableText
-    table = ap (λ (n : ℕ). answerText (plan_of grid t (sheetSpace sheet) n) (greedyPlan grid t) n) (sym rows-t) ∙ e
+    table : answer_text answer (greedy_plan grid t) (row_count sheet) ≡ reply_text sheet
+    unfolding answer table_text
+    table = ap (λ (n : ℕ). answer_text (plan_of grid t (sheet_space sheet) n) (greedy_plan grid t) n) (sym rows_t) ∙ e
 
     by_number : (answer.number ≡ 0) ⊎ (answer.number ≡ 0 → ⊥) → Outcome
     unfolding answer
     by_number (inl z) =
-        let d : answer ≡ doneWith (greedyNeed grid t) = done-of _ _ _ _ (done-says grid t (sheetSpace sheet) (rowCount sheet) z) in
-        let plan = sym (done-text (doneWith (greedyNeed grid t)) (greedyPlan grid t) (rowCount sheet) refl) in
-        planned t l of d (told l (plan ∙ ap (λ (x : Answer). answerText x (greedyPlan grid t) (rowCount sheet)) (sym d) ∙ table))
-    by_number (inr f) = refused t l of f (told l (sym (refused-text answer (greedyPlan grid t) (rowCount sheet) f) ∙ table))
+        let d : answer ≡ done_with (greedy_need grid t) = done_of _ _ _ _ (done_says grid t (sheet_space sheet) (row_count sheet) z) in
+        let plan = sym (done_text (done_with (greedy_need grid t)) (greedy_plan grid t) (row_count sheet) refl) in
+        planned t l of d (told l (plan ∙ ap (λ (x : Answer). answer_text x (greedy_plan grid t) (row_count sheet)) (sym d) ∙ table))
+    by_number (inr f) = refused t l of f (told l (sym (refused_text_lem answer (greedy_plan grid t) (row_count sheet) f) ∙ table))
 
-    of-table : Outcome
+    of_table : Outcome
     unfolding answer
-    of-table = by_number (same_or_not (plan_of grid t (sheetSpace sheet) (rowCount sheet)).number 0)
+    of_table = by_number (same_or_not (plan_of grid t (sheet_space sheet) (row_count sheet)).number 0)
 
-  of-judged : greatestText ≤ length text → wellFormed sheet ≡ true → GoodSheet sheet 2 52 → ShapesOutcome (sheetWords sheet) → Outcome
-  of-judged l w g (lowest-bad a h d) =
-      let n = (shapes-are sheet g.version-is).1 in
-      bad-shape a l g (subst (λ (m : ℕ). Lowest (λ r. (tensorSize (sheetWords sheet) r).number ≡ 0 → ⊥) m a) n h)
+  of_judged : greatest_text ≤ length text → well_formed sheet ≡ true → GoodSheet sheet 2 52 → ShapesOutcome (sheet_words sheet) → Outcome
+  of_judged l w g (lowest_bad a h d) =
+      let n = (shapes_are sheet g.version_is).1 in
+      bad_shape_case a l g (subst (λ (m : ℕ). Lowest (λ r. (tensor_size (sheet_words sheet) r).number ≡ 0 → ⊥) m a) n h)
       (told l
-      (ap refusedText (sym d)
-      ∙ shapes-refused (sheetWords sheet) (sheetSpace sheet) (λ z. h.here (sym (ap answerNumber d) ∙ z))
-      ∙ shapes-reply sheet w g.version-is))
-  of-judged l w g (all-good f d) =
-      let n = (shapes-are sheet g.version-is).1 in
-      of-table l (sizedTable (sheetWords sheet)) (sized_rows (sheetWords sheet) ∙ n) (of-shapes g (λ r m. f r (omega (arith, n))))
-      (shapes-sized (sheetWords sheet) (sheetSpace sheet) (ap answerNumber d) ∙ shapes-reply sheet w g.version-is)
+      (ap refused_text (sym d)
+      ∙ shapes_refused (sheet_words sheet) (sheet_space sheet) (λ z. h.here (sym (ap answer_number d) ∙ z))
+      ∙ shapes_reply sheet w g.version_is))
+  of_judged l w g (all_good f d) =
+      let n = (shapes_are sheet g.version_is).1 in
+      of_table l (sized_table (sheet_words sheet)) (sized_rows (sheet_words sheet) ∙ n) (of_shapes g (λ r m. f r (omega (arith, n))))
+      (shapes_sized (sheet_words sheet) (sheet_space sheet) (ap answer_number d) ∙ shapes_reply sheet w g.version_is)
 
-  of-good : greatestText ≤ length text → wellFormed sheet ≡ true → {number bytes : ℕ} → Form number bytes → GoodSheet sheet number bytes → Outcome
-  of-good l w requests g = of-table l (sheetWords sheet) (rows_are sheet g.version-is) (of-requests g) (table-reply sheet w g.version-is)
-  of-good l w shapes g = of-judged l w g (shapes-outcome (sheetWords sheet))
+  of_good : greatest_text ≤ length text → well_formed sheet ≡ true → {number bytes : ℕ} → Form number bytes → GoodSheet sheet number bytes → Outcome
+  of_good l w requests g = of_table l (sheet_words sheet) (rows_are sheet g.version_is) (of_requests g) (table_reply sheet w g.version_is)
+  of_good l w shapes g = of_judged l w g (shapes_outcome (sheet_words sheet))
 
   -- So it is replied.
   pub outcome : Outcome
-  outcome = go (lt-or-le (length text) greatestText) (wellFormed sheet) refl
+  outcome = go (lt_or_le (length text) greatest_text) (well_formed sheet) refl
     where
-      go : (length text < greatestText) ⊎ (greatestText ≤ length text) → (b : Bool) → wellFormed sheet ≡ b → Outcome
-      go (inl l) b w = let n = no_room greatestText (replyText sheet) text l in too-few-bytes l (sym n.0) (sym n.1)
-      go (inr l) false w = bad-sheet l (λ g. contrary (well-of sheet g.form g.good) w) (told l (bad-reply sheet w))
-      go (inr l) true w = let g = well-says sheet w in of-good l w g.form g.good
+      go : (length text < greatest_text) ⊎ (greatest_text ≤ length text) → (b : Bool) → well_formed sheet ≡ b → Outcome
+      go (inl l) b w = let n = no_room greatest_text (reply_text sheet) text l in too_few_bytes l (sym n.0) (sym n.1)
+      go (inr l) false w = bad_sheet l (λ g. contrary (well_of sheet g.form g.good) w) (told l (bad_reply sheet w))
+      go (inr l) true w = let g = well_says sheet w in of_good l w g.form g.good

@@ -3,38 +3,38 @@
 -- (`sheet_rule`) and the text of an answer (`text_rule`) meet here alone.
 use Rattle.std.specs.Prelude.{ℕ, true, false, not, List, [], ◌∷◌, eqb, ℤ}
 use Rattle.answer.specs.Answer.{done}
-use Rattle.bounded.specs.Causes.{◌⇒◌, firstCause}
-use Rattle.greedy_rule.specs.Greedy.{greedyPlan}
+use Rattle.bounded.specs.Causes.{◌⇒◌, first_cause}
+use Rattle.greedy_rule.specs.Greedy.{greedy_plan}
 use Rattle.greedy_rule.specs.Plan.{plan_of}
-use Rattle.text_rule.specs.Text.{answerText, refusedText, badSheetText, greatestText}
+use Rattle.text_rule.specs.Text.{answer_text, refused_text, bad_sheet_text, greatest_text}
 use Rattle.request_table.specs.Limits.{grid}
 use Rattle.request_table.specs.Table.{rows}
-use Rattle.shape_rule.specs.Sized.{sizedTable, shapesOf}
-use Rattle.sheet_rule.specs.Sheet.{wellFormed, version, sheetWords, sheetSpace}
-use Rattle.text_pieces.specs.Replied.{replyWith, leftWith}
+use Rattle.shape_rule.specs.Sized.{sized_table, shapes_of}
+use Rattle.sheet_rule.specs.Sheet.{well_formed, version, sheet_words, sheet_space}
+use Rattle.text_pieces.specs.Replied.{reply_with, left_with}
 use Rattle.text_pieces.specs.declared.Reply.{Reply}
 
 -- What is told of a table in a space: the planner's answer with room for every row, and where it is done each row's offset.
-unfoldable pub tableText : List ℤ → ℕ → List ℕ
-tableText t space = answerText (plan_of grid t space (rows t)) (greedyPlan grid t) (rows t)
+unfoldable pub table_text : List ℤ → ℕ → List ℕ
+table_text t space = answer_text (plan_of grid t space (rows t)) (greedy_plan grid t) (rows t)
 
 -- What is told of shapes in a space: "Shapes are judged before the plan, and the first bad one is printed with a = its row"; else their table's text.
-unfoldable pub shapesText : List ℤ → ℕ → List ℕ
-shapesText t space = elim (eqb (shapesOf t).number done) [ true ↦ tableText (sizedTable t) space | false ↦ refusedText (shapesOf t) ]
+unfoldable pub shapes_text : List ℤ → ℕ → List ℕ
+shapes_text t space = elim (eqb (shapes_of t).number done) [ true ↦ table_text (sized_table t) space | false ↦ refused_text (shapes_of t) ]
 
 -- The text: `bad sheet`, or that of the sheet's requests in its space, or of its shapes.
-unfoldable pub replyText : List ℕ → List ℕ
-replyText sheet =
-    firstCause
-    ((not (wellFormed sheet) ⇒ badSheetText)
-    ∷ (eqb (version sheet) 1 ⇒ tableText (sheetWords sheet) (sheetSpace sheet))
+unfoldable pub reply_text : List ℕ → List ℕ
+reply_text sheet =
+    first_cause
+    ((not (well_formed sheet) ⇒ bad_sheet_text)
+    ∷ (eqb (version sheet) 1 ⇒ table_text (sheet_words sheet) (sheet_space sheet))
     ∷ [])
-    (shapesText (sheetWords sheet) (sheetSpace sheet))
+    (shapes_text (sheet_words sheet) (sheet_space sheet))
 
 -- The answer: no room where the lent bytes are fewer than the longest text has, tested first; else how many bytes the text has.
-abbrev pub replyOf : List ℕ → ℕ → Reply
-replyOf sheet room = replyWith greatestText (replyText sheet) room
+abbrev pub reply_of : List ℕ → ℕ → Reply
+reply_of sheet room = reply_with greatest_text (reply_text sheet) room
 
 -- The lent bytes in the end: the text in front and the rest as it was; where there is no room, all stays.
-abbrev pub textAfter : List ℕ → List ℕ → List ℕ
-textAfter sheet text = leftWith greatestText (replyText sheet) text
+abbrev pub text_after : List ℕ → List ℕ → List ℕ
+text_after sheet text = left_with greatest_text (reply_text sheet) text

@@ -1,9 +1,9 @@
 // The rows of the request table (document 01, "Requests and the greedy rule"): a row from its words, whether it is good, the lowest that is not. All is
 // total: any table, any row, any grid.
 ghost use Rattle.std.specs.Prelude.{◌<◌, ◌≡◌};
-ghost use Rattle.bounded.specs.First.{firstIn};
+ghost use Rattle.bounded.specs.First.{first_in};
 ghost use Rattle.words.specs.Words.{word_at};
-ghost use Rattle.request_table.specs.Table.{rows as rows_of, word as wordOf, request, good, badRow};
+ghost use Rattle.request_table.specs.Table.{rows as rows_of, word as word_of, request, good, bad_row};
 
 use request_table::{GREATEST_SPACE, ROW_WORDS, Request};
 use units::{Moment, Offset, Row};
@@ -14,7 +14,7 @@ pub const LAST_MOMENT: u32 = 65535;
 // Where the word of a column stands. A row past the table gives a place past it too, where every word reads as 0.
 fn place_of(table: &[i32], row: Row, column: usize) -> usize
     requires { column < 4 }
-    ensures { word_at table.now result ≡ wordOf table.now row.0 column }
+    ensures { word_at table.now result ≡ word_of table.now row.0 column }
 {
     if row.0 < table.len() {
         return row.0 * ROW_WORDS + column;
@@ -54,7 +54,7 @@ fn is_good(grid: u32, request: Request) -> bool
 
 // The lowest row that is not good, else the number of rows.
 pub fn lowest_bad_row(grid: u32, table: &[i32]) -> Row
-    ensures { result.0 ≡ firstIn (badRow grid table.now) 0 (rows_of table.now) }
+    ensures { result.0 ≡ first_in (bad_row grid table.now) 0 (rows_of table.now) }
 {
     let n = table.len() / ROW_WORDS;
     let mut row = Row(0);

@@ -6,15 +6,15 @@ use mathlib.Core.Path.{◌≡◌, ◌∙◌}
 use borrow.Author.Tests.{le-leb}
 use lib.Dec.{leb}
 use Rattle.bounded.specs.Boolean.{both_hold}
-use Rattle.plan_text.specs.Written.{hasRoom, writtenLength, writtenInto}
+use Rattle.plan_text.specs.Written.{has_room, written_length, written_into}
 use Rattle.text_pieces.specs.Replied.{Stands}
-use Rattle.request_table.specs.Limits.{greatestRows}
-use Rattle.text_rule.specs.Text.{greatestText}
+use Rattle.request_table.specs.Limits.{greatest_rows}
+use Rattle.text_rule.specs.Text.{greatest_text}
 
 -- Where there is room, what is written stands.
-pub written : {n room count : ℕ} {text before after : List ℕ} → n ≤ greatestRows → greatestText ≤ room
-    → count ≡ writtenLength (hasRoom n room) text → after ≡ writtenInto (hasRoom n room) text before → Stands text before after count
-unfolding hasRoom writtenLength writtenInto
+pub written : {n room count : ℕ} {text before after : List ℕ} → n ≤ greatest_rows → greatest_text ≤ room
+    → count ≡ written_length (has_room n room) text → after ≡ written_into (has_room n room) text before → Stands text before after count
+unfolding has_room written_length written_into
 written {n} {room} few roomy p q =
-    let yes : hasRoom n room ≡ true = both_hold (leb n greatestRows) (leb greatestText room) (le-leb n greatestRows few) (le-leb greatestText room roomy) in
-    record { count-is = p ∙ rw (yes, writtenLength); bytes-are = q ∙ rw (yes, writtenInto) }
+    let yes : has_room n room ≡ true = both_hold (leb n greatest_rows) (leb greatest_text room) (le-leb n greatest_rows few) (le-leb greatest_text room roomy) in
+    record { count_is = p ∙ rw (yes, written_length); bytes_are = q ∙ rw (yes, written_into) }

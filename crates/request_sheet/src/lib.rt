@@ -1,12 +1,12 @@
 // The reply to a request sheet (document 01, "The request sheet"; document 02, order 1, for version 2): the sheet is read, its shapes sized where it has
 // them, its table planned and the answer told as text. Reading a sheet and writing a text are crates that do not know each other.
 ghost use Rattle.std.specs.Prelude.{◌*◌, ◌%◌, ◌≤◌, ◌≡◌, length};
-ghost use Rattle.text_rule.specs.Text.{greatestText};
-ghost use Rattle.request_table.specs.Limits.{greatestRows};
+ghost use Rattle.text_rule.specs.Text.{greatest_text};
+ghost use Rattle.request_table.specs.Limits.{greatest_rows};
 ghost use Rattle.request_table.specs.Table.{rows};
-ghost use Rattle.shape_rule.specs.ShapeTable.{shapeCount};
+ghost use Rattle.shape_rule.specs.ShapeTable.{shape_count};
 ghost use Rattle.text_pieces.specs.Replied.{Stands};
-ghost use Rattle.reply_rule.specs.Reply.{tableText, shapesText, replyOf, textAfter};
+ghost use Rattle.reply_rule.specs.Reply.{table_text, shapes_text, reply_of, text_after};
 
 use answer::Answer;
 pub use plan_text::GREATEST_TEXT;
@@ -22,29 +22,29 @@ const REQUEST_WORDS: usize = GREATEST_ROWS * ROW_WORDS;
 
 // A table of offsets for the planner to fill. What stands in it is not told: only its length matters.
 fn no_offsets() -> [i32; GREATEST_ROWS]
-    ensures { greatestRows ≡ length result }
+    ensures { greatest_rows ≡ length result }
 {
     [0; GREATEST_ROWS]
 }
 
 // A table of requests for shapes to fill.
 fn no_requests() -> [i32; REQUEST_WORDS]
-    ensures { greatestRows * 4 ≡ length result }
+    ensures { greatest_rows * 4 ≡ length result }
 {
     [0; REQUEST_WORDS]
 }
 
 // A table of words for the sheet to fill.
 fn no_words() -> [i32; SHEET_WORDS]
-    ensures { greatestRows * 13 ≡ length result }
+    ensures { greatest_rows * 13 ≡ length result }
 {
     [0; SHEET_WORDS]
 }
 
 // Plans a table with room for every row, and writes what came of it. Gives how many bytes were written.
 fn write_plan(requests: &[i32], space: u32, text: &mut [u8]) -> usize
-    requires { (rows requests.now ≤ greatestRows) × (greatestText ≤ length text.old) }
-    ensures { Stands (tableText requests.now space) text.old text.new result }
+    requires { (rows requests.now ≤ greatest_rows) × (greatest_text ≤ length text.old) }
+    ensures { Stands (table_text requests.now space) text.old text.new result }
 {
     let rows = requests.len() / ROW_WORDS;
     let mut offsets = no_offsets();
@@ -54,8 +54,8 @@ fn write_plan(requests: &[i32], space: u32, text: &mut [u8]) -> usize
 
 // Plans the requests that good shapes make, or writes the refusal of the first bad one. Gives how many bytes were written.
 fn write_shapes(shapes: &[i32], space: u32, text: &mut [u8]) -> usize
-    requires { (length shapes.now % 13 ≡ 0) × (shapeCount shapes.now ≤ greatestRows) × (greatestText ≤ length text.old) }
-    ensures { Stands (shapesText shapes.now space) text.old text.new result }
+    requires { (length shapes.now % 13 ≡ 0) × (shape_count shapes.now ≤ greatest_rows) × (greatest_text ≤ length text.old) }
+    ensures { Stands (shapes_text shapes.now space) text.old text.new result }
 {
     let entries = shapes.len() / SHAPE_WORDS * ROW_WORDS;
     let mut requests = no_requests();
@@ -69,8 +69,8 @@ fn write_shapes(shapes: &[i32], space: u32, text: &mut [u8]) -> usize
 // The text of the plan, of its refusal or of a bad sheet stands in the first bytes of `text`, and the rest stays. A `text` of fewer bytes than the longest
 // has is left as it was, whatever the sheet.
 pub fn reply(sheet: &[u8], text: &mut [u8]) -> Reply
-    ensures reply { result ≡ replyOf sheet.now (length text.old) }
-    ensures text { text.new ≡ textAfter sheet.now text.old }
+    ensures reply { result ≡ reply_of sheet.now (length text.old) }
+    ensures text { text.new ≡ text_after sheet.now text.old }
 {
     if text.len() < GREATEST_TEXT {
         return Reply::NoRoom;

@@ -3,38 +3,38 @@
 use Rattle.std.specs.Prelude.{ℕ, not, List, [], ◌∷◌, ◌++◌, ltb, ℤ}
 use Rattle.answer.specs.declared.Answer.{Answer}
 use Rattle.answer.specs.Answer as A
-use Rattle.bounded.specs.Causes.{Cause, ◌⇒◌, firstCause}
-use Rattle.bounded.specs.First.{firstIn, holdsBelow}
-use Rattle.request_table.specs.Limits.{greatestRows, greatestSpace}
-use Rattle.request_table.specs.Table.{rows, wholeRows, badRow}
+use Rattle.bounded.specs.Causes.{Cause, ◌⇒◌, first_cause}
+use Rattle.bounded.specs.First.{first_in, holds_below}
+use Rattle.request_table.specs.Limits.{greatest_rows, greatest_space}
+use Rattle.request_table.specs.Table.{rows, whole_rows, bad_row}
 
 -- 1 to 3: the tables' lengths.
-abbrev pub shapeCauses : List ℤ → ℕ → List (Cause Answer)
-shapeCauses t room =
-    (not (wholeRows t) ⇒ A.refused A.notWholeRows)
-    ∷ (ltb greatestRows (rows t) ⇒ A.refused A.tooMany)
-    ∷ (ltb room (rows t) ⇒ A.refused A.tableTooShort)
+abbrev pub shape_causes : List ℤ → ℕ → List (Cause Answer)
+shape_causes t room =
+    (not (whole_rows t) ⇒ A.refused A.not_whole_rows)
+    ∷ (ltb greatest_rows (rows t) ⇒ A.refused A.too_many)
+    ∷ (ltb room (rows t) ⇒ A.refused A.table_too_short)
     ∷ []
 
 -- 4 and 5: the space, and the lowest bad row.
-abbrev pub contentCauses : ℕ → List ℤ → ℕ → List (Cause Answer)
-contentCauses g t space =
-    (ltb greatestSpace space ⇒ A.refused A.spaceTooLarge)
-    ∷ (holdsBelow (badRow g t) (rows t) ⇒ A.refusedAt A.badRow (firstIn (badRow g t) 0 (rows t)))
+abbrev pub content_causes : ℕ → List ℤ → ℕ → List (Cause Answer)
+content_causes g t space =
+    (ltb greatest_space space ⇒ A.refused A.space_too_large)
+    ∷ (holds_below (bad_row g t) (rows t) ⇒ A.refused_at A.bad_row (first_in (bad_row g t) 0 (rows t)))
     ∷ []
 
 -- 1 to 5.
-abbrev pub tableCauses : ℕ → List ℤ → ℕ → ℕ → List (Cause Answer)
-tableCauses g t space room = shapeCauses t room ++ contentCauses g t space
+abbrev pub table_causes : ℕ → List ℤ → ℕ → ℕ → List (Cause Answer)
+table_causes g t space room = shape_causes t room ++ content_causes g t space
 
 -- The answer of the checks 1 to 3 alone: a refusal, or done with no need.
 unfoldable pub shape_of : List ℤ → ℕ → Answer
-shape_of t room = firstCause (shapeCauses t room) (A.doneWith 0)
+shape_of t room = first_cause (shape_causes t room) (A.done_with 0)
 
 -- The answer of the checks 4 and 5 alone.
-unfoldable pub contentOf : ℕ → List ℤ → ℕ → Answer
-contentOf g t space = firstCause (contentCauses g t space) (A.doneWith 0)
+unfoldable pub content_of : ℕ → List ℤ → ℕ → Answer
+content_of g t space = first_cause (content_causes g t space) (A.done_with 0)
 
 -- The answer of the checks 1 to 5 alone.
-unfoldable pub checkOf : ℕ → List ℤ → ℕ → ℕ → Answer
-checkOf g t space room = firstCause (tableCauses g t space room) (A.doneWith 0)
+unfoldable pub check_of : ℕ → List ℤ → ℕ → ℕ → Answer
+check_of g t space room = first_cause (table_causes g t space room) (A.done_with 0)

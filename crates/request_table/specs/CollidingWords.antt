@@ -4,11 +4,11 @@
 use Rattle.std.specs.Prelude.{ℕ, zero, suc, ◌+◌, ◌*◌, ◌/◌, ◌<◌, ◌≤◌, true, List, ◌↔◌, ◌≡◌, ℤ, pos, ◌≤ℤ◌, ◌<ℤ◌}
 use Rattle.std.proofs.Common.{sym, ap, subst, div-add-mod', le_antisymm, arith}
 use Rattle.std.proofs.Math.Nat.{mul-mod_left}
-use Rattle.alignment.specs.Rounding.{up_multiple, up-holds, up_least, up-something, up-nothing}
+use Rattle.alignment.specs.Rounding.{up_multiple, up_holds, up_least, up_something, up_nothing}
 use Rattle.words.specs.Words.{natural}
-use Rattle.words.specs.WordOrders.{le_of, lt_of, of_le, of_lt, natural-of, from_zero}
-use Rattle.request_table.specs.Buffers.{occupied, bufferAt, collides, shareByte}
-use Rattle.request_table.specs.Colliding.{Colliding, SharedByte, collides-says, collides-of}
+use Rattle.words.specs.WordOrders.{le_of, lt_of, of_le, of_lt, natural_of, from_zero}
+use Rattle.request_table.specs.Buffers.{occupied, buffer_at, collides, share_byte}
+use Rattle.request_table.specs.Colliding.{Colliding, SharedByte, collides_says, collides_of}
 use Rattle.request_table.specs.GoodRows.{GoodRow}
 use Rattle.request_table.specs.Table.{word, request}
 
@@ -28,17 +28,17 @@ pub record InSpan (g : ℕ) (t : List ℤ) (r o byte : ℕ) : Type 0 where
 
 -- Row a at offset p and row b at offset q collide.
 pub record CollidingWords (g : ℕ) (t : List ℤ) (a p b q : ℕ) : Type 0 where
-  pub a-nonempty : pos 0 <ℤ word t a 0
-  pub b-nonempty : pos 0 <ℤ word t b 0
-  pub a-begun : word t a 1 ≤ℤ word t b 2
-  pub b-begun : word t b 1 ≤ℤ word t a 2
+  pub a_nonempty : pos 0 <ℤ word t a 0
+  pub b_nonempty : pos 0 <ℤ word t b 0
+  pub a_begun : word t a 1 ≤ℤ word t b 2
+  pub b_begun : word t b 1 ≤ℤ word t a 2
   pub byte : ℕ
-  pub in-a : InSpan g t a p byte
+  pub in_a : InSpan g t a p byte
   pub in_b : InSpan g t b q byte
 
 -- Only one number is the least such multiple.
-pub one-rounded : {g : ℕ} {z : ℤ} {m n : ℕ} → LeastMultiple g z m → LeastMultiple g z n → m ≡ n
-one-rounded x y = le_antisymm (below x y) (below y x)
+pub one_rounded : {g : ℕ} {z : ℤ} {m n : ℕ} → LeastMultiple g z m → LeastMultiple g z n → m ≡ n
+one_rounded x y = le_antisymm (below x y) (below y x)
   where
     below : {g : ℕ} {z : ℤ} {m n : ℕ} → LeastMultiple g z m → LeastMultiple g z n → m ≤ n
     below {z} x y = omega (arith, x.least y.times (subst (λ (k : ℕ). z ≤ℤ pos k) y.is y.enough), y.is)
@@ -49,24 +49,24 @@ module _ (g : ℕ) (t : List ℤ) (r : ℕ) (good : GoodRow g t r) where
   -- Each is the number that it reads as.
   pub size_word : word t r 0 ≡ pos (request t r).size
   unfolding request
-  size_word = natural-of (word t r 0) good.size-from
+  size_word = natural_of (word t r 0) good.size_from
 
   pub first_word : word t r 1 ≡ pos (request t r).first.0
   unfolding request
-  first_word = natural-of (word t r 1) good.first-from
+  first_word = natural_of (word t r 1) good.first_from
 
   pub last_word : word t r 2 ≡ pos (request t r).last.0
   unfolding request
-  last_word = natural-of (word t r 2) (from_zero (word t r 1) (word t r 2) good.first-from good.first_to)
+  last_word = natural_of (word t r 2) (from_zero (word t r 1) (word t r 2) good.first_from good.first_to)
 
   -- The occupied size is the size rounded up.
-  pub occupied-rounded : 0 < g → LeastMultiple g (word t r 0) (occupied g (request t r).size)
-  occupied-rounded h =
+  pub occupied_rounded : 0 < g → LeastMultiple g (word t r 0) (occupied g (request t r).size)
+  occupied_rounded h =
       let n : ℕ = occupied g (request t r).size in
       record {
         times = n / g;
         is = omega (arith, div-add-mod' n g, up_multiple g (request t r).size);
-        enough = subst (λ (z : ℤ). z ≤ℤ pos n) (sym size_word) (le_of _ _ (up-holds g (request t r).size h));
+        enough = subst (λ (z : ℤ). z ≤ℤ pos n) (sym size_word) (le_of _ _ (up_holds g (request t r).size h));
         least = λ k l. up_least g (request t r).size h (k * g) (mul-mod_left k g) (of_le _ _ (subst (λ (z : ℤ). z ≤ℤ pos (k * g)) size_word l));
       }
 
@@ -75,9 +75,9 @@ module _ (g : ℕ) (t : List ℤ) (r : ℕ) (good : GoodRow g t r) where
   some_size l = subst (λ (z : ℤ). pos 0 <ℤ z) (sym size_word) (lt_of _ _ (some (request t r).size l))
     where
       some : (size : ℕ) → 0 < occupied g size → 0 < size
-      some zero m = absurd (omega (arith, up-nothing g))
+      some zero m = absurd (omega (arith, up_nothing g))
       some (suc n) m = omega arith
 
   -- and the other.
-  pub some-occupied : 0 < g → pos 0 <ℤ word t r 0 → 0 < occupied g (request t r).size
-  some-occupied h l = up-something g (request t r).size h (of_lt _ _ (subst (λ (z : ℤ). pos 0 <ℤ z) size_word l))
+  pub some_occupied : 0 < g → pos 0 <ℤ word t r 0 → 0 < occupied g (request t r).size
+  some_occupied h l = up_something g (request t r).size h (of_lt _ _ (subst (λ (z : ℤ). pos 0 <ℤ z) size_word l))

@@ -9,94 +9,94 @@ use borrow.Author.Tests.{leb-true, le-leb, eqb-true, eq-eqb}
 use Rattle.std.proofs.Math.Dec.{leb}
 use Rattle.std.proofs.Math.IntN.{pos, negsuc}
 use Rattle.bounded.specs.Boolean.{both, both_hold, either}
-use Rattle.words.specs.Words.{natural, isMinusOne}
-use Rattle.words.specs.WordOrders.{within, le_of, of_le, natural-of, from_zero, minus-one-of}
-use Rattle.request_table.specs.Limits.{greatestSpace, lastMoment}
-use Rattle.request_table.specs.Table.{word, request, onGrid, goodSize, goodLifetime, goodOffset, good}
+use Rattle.words.specs.Words.{natural, is_minus_one}
+use Rattle.words.specs.WordOrders.{within, le_of, of_le, natural_of, from_zero, minus_one_of}
+use Rattle.request_table.specs.Limits.{greatest_space, last_moment}
+use Rattle.request_table.specs.Table.{word, request, on_grid, good_size, good_lifetime, good_offset, good}
 use Rattle.request_table.specs.declared.Request.{Request}
 
 -- A natural multiple of the grid, up to the greatest offset.
 pub record Multiple (g : ℕ) (z : ℤ) : Type 0 where
   pub times : ℕ
   pub is : z ≡ pos (times * g)
-  pub small : times * g ≤ greatestSpace
+  pub small : times * g ≤ greatest_space
 
 -- "A row is good when size is 0 to 16,777,216; 0 ≤ first ≤ last ≤ 65,535; and the offset is −1 (placed by us) or a multiple of 16 from 0 to 16,777,216."
 pub record GoodRow (g : ℕ) (t : List ℤ) (r : ℕ) : Type 0 where
-  pub size-from : pos 0 ≤ℤ word t r 0
-  pub size-to : word t r 0 ≤ℤ pos greatestSpace
-  pub first-from : pos 0 ≤ℤ word t r 1
+  pub size_from : pos 0 ≤ℤ word t r 0
+  pub size_to : word t r 0 ≤ℤ pos greatest_space
+  pub first_from : pos 0 ≤ℤ word t r 1
   pub first_to : word t r 1 ≤ℤ word t r 2
-  pub last-to : word t r 2 ≤ℤ pos lastMoment
+  pub last_to : word t r 2 ≤ℤ pos last_moment
   pub offset : (word t r 3 ≡ negsuc 0) ⊎ Multiple g (word t r 3)
 
 module _ (g : ℕ) (t : List ℤ) (r : ℕ) where
   -- A row that the definition calls good is good in the document's words.
-  pub good-says : good g (request t r) ≡ true → GoodRow g t r
+  pub good_says : good g (request t r) ≡ true → GoodRow g t r
   unfolding good request
-  good-says e =
+  good_says e =
       let x = request t r in
-      let a = both (goodSize x) (goodLifetime x && goodOffset g x) e in
-      let b = both (goodLifetime x) (goodOffset g x) a.1 in
-      let l = both (leb x.first.0 x.last.0) (leb x.last.0 lastMoment) b.0 in
-      let size = within (word t r 0) greatestSpace (omega arith) (leb-true _ _ a.0) in
-      let last = within (word t r 2) lastMoment (omega arith) (leb-true _ _ l.1) in
+      let a = both (good_size x) (good_lifetime x && good_offset g x) e in
+      let b = both (good_lifetime x) (good_offset g x) a.1 in
+      let l = both (leb x.first.0 x.last.0) (leb x.last.0 last_moment) b.0 in
+      let size = within (word t r 0) greatest_space (omega arith) (leb-true _ _ a.0) in
+      let last = within (word t r 2) last_moment (omega arith) (leb-true _ _ l.1) in
       let rising : natural (word t r 1) ≤ natural (word t r 2) = leb-true _ _ l.0 in
-      let first = within (word t r 1) lastMoment (omega arith) (omega (arith, last.small)) in
+      let first = within (word t r 1) last_moment (omega arith) (omega (arith, last.small)) in
       record {
-        size-from = subst (λ (z : ℤ). pos 0 ≤ℤ z) (sym size.is) (le_of 0 _ (omega arith));
-        size-to = subst (λ (z : ℤ). z ≤ℤ pos greatestSpace) (sym size.is) (le_of _ _ size.small);
-        first-from = subst (λ (z : ℤ). pos 0 ≤ℤ z) (sym first.is) (le_of 0 _ (omega arith));
+        size_from = subst (λ (z : ℤ). pos 0 ≤ℤ z) (sym size.is) (le_of 0 _ (omega arith));
+        size_to = subst (λ (z : ℤ). z ≤ℤ pos greatest_space) (sym size.is) (le_of _ _ size.small);
+        first_from = subst (λ (z : ℤ). pos 0 ≤ℤ z) (sym first.is) (le_of 0 _ (omega arith));
         first_to = subst (λ (z : ℤ). z ≤ℤ word t r 2) (sym first.is) (subst (λ (z : ℤ). pos (natural (word t r 1)) ≤ℤ z) (sym last.is) (le_of _ _ rising));
-        last-to = subst (λ (z : ℤ). z ≤ℤ pos lastMoment) (sym last.is) (le_of _ _ last.small);
+        last_to = subst (λ (z : ℤ). z ≤ℤ pos last_moment) (sym last.is) (le_of _ _ last.small);
         offset = placed (either _ _ b.1);
       }
     where
-      placed : (not (not (isMinusOne (word t r 3))) ≡ true) ⊎ (eqb (natural (word t r 3) % g) 0 && leb (natural (word t r 3)) greatestSpace ≡ true)
+      placed : (not (not (is_minus_one (word t r 3))) ≡ true) ⊎ (eqb (natural (word t r 3) % g) 0 && leb (natural (word t r 3)) greatest_space ≡ true)
           → (word t r 3 ≡ negsuc 0) ⊎ Multiple g (word t r 3)
-      placed (inl q) = inl (minus-one-of (word t r 3) (sym (not-not (isMinusOne (word t r 3))) ∙ q))
+      placed (inl q) = inl (minus_one_of (word t r 3) (sym (not-not (is_minus_one (word t r 3))) ∙ q))
       placed (inr q) =
           let x = both _ _ q in
-          let o = within (word t r 3) greatestSpace (omega arith) (leb-true _ _ x.1) in
+          let o = within (word t r 3) greatest_space (omega arith) (leb-true _ _ x.1) in
           let z : natural (word t r 3) / g * g ≡ natural (word t r 3) = omega (arith, div-add-mod' (natural (word t r 3)) g, eqb-true (natural (word t r 3) % g) 0 x.0) in
           inr (record { times = natural (word t r 3) / g; is = o.is ∙ ap pos (sym z); small = omega (arith, o.small) })
 
   -- And the other way.
   pub good_of : GoodRow g t r → good g (request t r) ≡ true
-  unfolding good request isMinusOne natural
+  unfolding good request is_minus_one natural
   good_of x =
-      let size = natural-of (word t r 0) x.size-from in
-      let first = natural-of (word t r 1) x.first-from in
-      let last = natural-of (word t r 2) (from_zero (word t r 1) (word t r 2) x.first-from x.first_to) in
-      both_hold _ _ (le-leb _ _ (of_le _ _ (subst (λ (z : ℤ). z ≤ℤ pos greatestSpace) size x.size-to)))
+      let size = natural_of (word t r 0) x.size_from in
+      let first = natural_of (word t r 1) x.first_from in
+      let last = natural_of (word t r 2) (from_zero (word t r 1) (word t r 2) x.first_from x.first_to) in
+      both_hold _ _ (le-leb _ _ (of_le _ _ (subst (λ (z : ℤ). z ≤ℤ pos greatest_space) size x.size_to)))
       (both_hold _ _
       (both_hold _ _
       (le-leb _ _ (of_le _ _ (subst (λ (z : ℤ). z ≤ℤ pos (natural (word t r 2))) first (subst (λ (z : ℤ). word t r 1 ≤ℤ z) last x.first_to))))
-      (le-leb _ _ (of_le _ _ (subst (λ (z : ℤ). z ≤ℤ pos lastMoment) last x.last-to))))
+      (le-leb _ _ (of_le _ _ (subst (λ (z : ℤ). z ≤ℤ pos last_moment) last x.last_to))))
       (placed x.offset))
     where
       placed : (word t r 3 ≡ negsuc 0) ⊎ Multiple g (word t r 3)
-          → not (not (isMinusOne (word t r 3))) || (eqb (natural (word t r 3) % g) 0 && leb (natural (word t r 3)) greatestSpace) ≡ true
+          → not (not (is_minus_one (word t r 3))) || (eqb (natural (word t r 3) % g) 0 && leb (natural (word t r 3)) greatest_space) ≡ true
       placed (inl q) = rw q
       placed (inr m) = rw m.is (both_hold _ _ (eq-eqb (m.times * g % g) 0 (mul-mod_left m.times g)) (le-leb _ _ m.small))
 
 -- A good row's size is within the limit,
-pub good-size : (g : ℕ) (x : Request) → good g x ≡ true → x.size ≤ greatestSpace
+pub good_size_lem : (g : ℕ) (x : Request) → good g x ≡ true → x.size ≤ greatest_space
 unfolding good
-good-size g x e = leb-true _ _ (both (goodSize x) _ e).0
+good_size_lem g x e = leb-true _ _ (both (good_size x) _ e).0
 
 -- and so is the offset of one that is fixed.
-pub good-offset : (g : ℕ) (x : Request) → good g x ≡ true → x.fixed ≡ true → x.offset.0 ≤ greatestSpace
+pub good_offset_lem : (g : ℕ) (x : Request) → good g x ≡ true → x.fixed ≡ true → x.offset.0 ≤ greatest_space
 unfolding good
-good-offset g x e f =
-    let a = (both (goodLifetime x) (goodOffset g x) (both (goodSize x) _ e).1).1 in
+good_offset_lem g x e f =
+    let a = (both (good_lifetime x) (good_offset g x) (both (good_size x) _ e).1).1 in
     let b = rw f at a in
-    leb-true _ _ (both (onGrid g x.offset.0) _ b).1
+    leb-true _ _ (both (on_grid g x.offset.0) _ b).1
 
 -- The offset of a good fixed row is a multiple of the grid.
-pub good-on-grid : (g : ℕ) (x : Request) → good g x ≡ true → x.fixed ≡ true → x.offset.0 % g ≡ 0
+pub good_on_grid : (g : ℕ) (x : Request) → good g x ≡ true → x.fixed ≡ true → x.offset.0 % g ≡ 0
 unfolding good
-good-on-grid g x e f =
-    let a = (both (goodLifetime x) (goodOffset g x) (both (goodSize x) _ e).1).1 in
+good_on_grid g x e f =
+    let a = (both (good_lifetime x) (good_offset g x) (both (good_size x) _ e).1).1 in
     let b = rw f at a in
-    eqb-true _ _ (both (onGrid g x.offset.0) _ b).0
+    eqb-true _ _ (both (on_grid g x.offset.0) _ b).0

@@ -6,13 +6,13 @@ abbrev pub grid : ℕ
 grid = 16
 
 -- "At most 256 rows.", which document 02, order 5, raises to 1,024.
-abbrev pub greatestRows : ℕ
-greatestRows = 1024
+abbrev pub greatest_rows : ℕ
+greatest_rows = 1024
 
 -- The greatest size, fixed offset and space: 16,777,216.
-abbrev pub greatestSpace : ℕ
-greatestSpace = 16777216
+abbrev pub greatest_space : ℕ
+greatest_space = 16777216
 
 -- The last moment that a row may name.
-abbrev pub lastMoment : ℕ
-lastMoment = 65535
+abbrev pub last_moment : ℕ
+last_moment = 65535

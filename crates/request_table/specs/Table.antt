@@ -2,9 +2,9 @@
 -- All is a total function of the table and the row's number. A negative word reads as a number above every limit (`words`), so a test of an upper
 -- limit also refuses it; `GoodRows` says the rule again in signed numbers, as document 01 has it, and proves that it is the same.
 use Rattle.std.specs.Prelude.{ℕ, ◌%◌, Bool, not, ◌&&◌, ◌||◌, List, leb, eqb, ℤ}
-use Rattle.words.specs.Rows.{rows_of, hasWholeRows, wordOf}
-use Rattle.words.specs.Words.{natural, isMinusOne}
-use Rattle.request_table.specs.Limits.{greatestSpace, lastMoment}
+use Rattle.words.specs.Rows.{rows_of, has_whole_rows, word_of}
+use Rattle.words.specs.Words.{natural, is_minus_one}
+use Rattle.request_table.specs.Limits.{greatest_space, last_moment}
 use Rattle.request_table.specs.declared.Request.{Request}
 
 -- How many whole rows the table has.
@@ -12,12 +12,12 @@ abbrev pub rows : List ℤ → ℕ
 rows t = rows_of 4 t
 
 -- Whether it has nothing but whole rows.
-abbrev pub wholeRows : List ℤ → Bool
-wholeRows t = hasWholeRows 4 t
+abbrev pub whole_rows : List ℤ → Bool
+whole_rows t = has_whole_rows 4 t
 
 -- The word in a column of a row.
 abbrev pub word : List ℤ → ℕ → ℕ → ℤ
-word t r column = wordOf 4 t r column
+word t r column = word_of 4 t r column
 
 -- A row, as the code has it.
 unfoldable pub request : List ℤ → ℕ → Request
@@ -26,7 +26,7 @@ request t r =
       size = natural (word t r 0);
       first = record { 0 = natural (word t r 1) };
       last = record { 0 = natural (word t r 2) };
-      fixed = not (isMinusOne (word t r 3));
+      fixed = not (is_minus_one (word t r 3));
       offset = record { 0 = natural (word t r 3) };
     }
 
@@ -35,29 +35,29 @@ abbrev pub fixed : List ℤ → ℕ → Bool
 fixed t r = (request t r).fixed
 
 -- The offset of a fixed row.
-abbrev pub fixedOffset : List ℤ → ℕ → ℕ
-fixedOffset t r = (request t r).offset.0
+abbrev pub fixed_offset : List ℤ → ℕ → ℕ
+fixed_offset t r = (request t r).offset.0
 
 -- An offset is a multiple of the grid.
-abbrev pub onGrid : ℕ → ℕ → Bool
-onGrid g o = eqb (o % g) 0
+abbrev pub on_grid : ℕ → ℕ → Bool
+on_grid g o = eqb (o % g) 0
 
 -- Document 01: "size is 0 to 16,777,216".
-abbrev pub goodSize : Request → Bool
-goodSize x = leb x.size greatestSpace
+abbrev pub good_size : Request → Bool
+good_size x = leb x.size greatest_space
 
 -- "0 ≤ first ≤ last ≤ 65,535".
-abbrev pub goodLifetime : Request → Bool
-goodLifetime x = leb x.first.0 x.last.0 && leb x.last.0 lastMoment
+abbrev pub good_lifetime : Request → Bool
+good_lifetime x = leb x.first.0 x.last.0 && leb x.last.0 last_moment
 
 -- "the offset is −1 (placed by us) or a multiple of 16 from 0 to 16,777,216".
-abbrev pub goodOffset : ℕ → Request → Bool
-goodOffset g x = not x.fixed || (onGrid g x.offset.0 && leb x.offset.0 greatestSpace)
+abbrev pub good_offset : ℕ → Request → Bool
+good_offset g x = not x.fixed || (on_grid g x.offset.0 && leb x.offset.0 greatest_space)
 
 -- A good row is all three.
 unfoldable pub good : ℕ → Request → Bool
-good g x = goodSize x && (goodLifetime x && goodOffset g x)
+good g x = good_size x && (good_lifetime x && good_offset g x)
 
 -- A bad row is any other.
-abbrev pub badRow : ℕ → List ℤ → ℕ → Bool
-badRow g t r = not (good g (request t r))
+abbrev pub bad_row : ℕ → List ℤ → ℕ → Bool
+bad_row g t r = not (good g (request t r))

@@ -1,9 +1,9 @@
 // The checks 1 to 5 of the request table (document 01, "The desk's order of checks"), with which every planner and the inspector begin. All is total: any
 // table, any space, any room, any grid.
 ghost use Rattle.std.specs.Prelude.{◌≤◌, ◌≡◌};
-ghost use Rattle.request_table.specs.Limits.{greatestRows};
+ghost use Rattle.request_table.specs.Limits.{greatest_rows};
 ghost use Rattle.request_table.specs.Table.{rows as rows_of};
-ghost use Rattle.request_table.specs.Checks.{shape_of, contentOf, checkOf};
+ghost use Rattle.request_table.specs.Checks.{shape_of, content_of, check_of};
 
 use answer::Answer;
 use request_table::{GREATEST_ROWS, GREATEST_SPACE, ROW_WORDS};
@@ -22,8 +22,8 @@ fn check_shape(table: &[i32], room: usize) -> Answer
 
 // The checks 4 and 5: the space, which is told with no place, and the rows.
 fn check_content(grid: u32, table: &[i32], space: u32) -> Answer
-    requires { rows_of table.now ≤ greatestRows }
-    ensures { result ≡ contentOf grid table.now space }
+    requires { rows_of table.now ≤ greatest_rows }
+    ensures { result ≡ content_of grid table.now space }
 {
     let bad = request_rows::lowest_bad_row(grid, table);
     let place = bad.0 as u32;
@@ -40,7 +40,7 @@ fn check_content(grid: u32, table: &[i32], space: u32) -> Answer
 
 // The checks 1 to 5, in their order, of a request table, a space and an answer or proposal table with this room: a refusal, or done with no need.
 pub fn check(grid: u32, table: &[i32], space: u32, room: usize) -> Answer
-    ensures { result ≡ checkOf grid table.now space room }
+    ensures { result ≡ check_of grid table.now space room }
 {
     let shape = check_shape(table, room);
     if shape.number != Answer::DONE {

@@ -3,51 +3,51 @@
 use Rattle.std.specs.Prelude.{ℕ, ◌+◌, ◌*◌, ◌/◌, ◌%◌, true, false, not, List, [], ◌∷◌, ◌++◌, ltb, eqb, ℤ, pos, length}
 use Rattle.answer.specs.Answer as A
 use Rattle.answer.specs.declared.Answer.{Answer}
-use Rattle.bounded.specs.Causes.{Cause, ◌⇒◌, firstCause}
-use Rattle.bounded.specs.First.{firstIn, holdsBelow}
+use Rattle.bounded.specs.Causes.{Cause, ◌⇒◌, first_cause}
+use Rattle.bounded.specs.First.{first_in, holds_below}
 use Rattle.bounded.specs.Listed.{list_from}
 use Rattle.bounded.specs.Replaced.{replaced}
-use Rattle.request_table.specs.Limits.{greatestRows}
-use Rattle.words.specs.Rows.{hasWholeRows}
-use Rattle.shape_rule.specs.ShapeTable.{shapeCount, shapeWord, tensorSize, badShape}
+use Rattle.request_table.specs.Limits.{greatest_rows}
+use Rattle.words.specs.Rows.{has_whole_rows}
+use Rattle.shape_rule.specs.ShapeTable.{shape_count, shape_word, tensor_size, bad_shape}
 
 -- The word in a column of a row of the request table: the size in column 0; first, last and offset in columns 1, 2 and 3, which are the shape's 10, 11, 12.
-unfoldable pub requestWord : List ℤ → ℕ → ℕ → ℤ
-requestWord t r column = elim (eqb column 0) [ true ↦ pos (tensorSize t r).need | false ↦ shapeWord t r (9 + column) ]
+unfoldable pub request_word : List ℤ → ℕ → ℕ → ℤ
+request_word t r column = elim (eqb column 0) [ true ↦ pos (tensor_size t r).need | false ↦ shape_word t r (9 + column) ]
 
 -- Its entries are four words a row.
-abbrev pub requestEntry : List ℤ → ℕ → ℤ
-requestEntry t i = requestWord t (i / 4) (i % 4)
+abbrev pub request_entry : List ℤ → ℕ → ℤ
+request_entry t i = request_word t (i / 4) (i % 4)
 
 -- The request table of a shape table.
-unfoldable pub sizedTable : List ℤ → List ℤ
-sizedTable t = list_from (requestEntry t) 0 (shapeCount t * 4)
+unfoldable pub sized_table : List ℤ → List ℤ
+sized_table t = list_from (request_entry t) 0 (shape_count t * 4)
 
 -- 1 to 3: the tables' lengths. Four entries a row are asked for.
-abbrev pub lengthCauses : List ℤ → ℕ → List (Cause Answer)
-lengthCauses t room =
-    (not (hasWholeRows 13 t) ⇒ A.refused A.notWholeRows)
-    ∷ (ltb greatestRows (shapeCount t) ⇒ A.refused A.tooMany)
-    ∷ (ltb room (shapeCount t * 4) ⇒ A.refused A.tableTooShort)
+abbrev pub length_causes : List ℤ → ℕ → List (Cause Answer)
+length_causes t room =
+    (not (has_whole_rows 13 t) ⇒ A.refused A.not_whole_rows)
+    ∷ (ltb greatest_rows (shape_count t) ⇒ A.refused A.too_many)
+    ∷ (ltb room (shape_count t * 4) ⇒ A.refused A.table_too_short)
     ∷ []
 
 -- The first bad shape's own number, "with a = its row".
-abbrev pub shapeCauses : List ℤ → List (Cause Answer)
-shapeCauses t =
-    (holdsBelow (badShape t) (shapeCount t) ⇒ A.refusedAt (tensorSize t (firstIn (badShape t) 0 (shapeCount t))).number (firstIn (badShape t) 0 (shapeCount t))) ∷ []
+abbrev pub shape_causes : List ℤ → List (Cause Answer)
+shape_causes t =
+    (holds_below (bad_shape t) (shape_count t) ⇒ A.refused_at (tensor_size t (first_in (bad_shape t) 0 (shape_count t))).number (first_in (bad_shape t) 0 (shape_count t))) ∷ []
 
 -- The answer of the lengths alone.
-unfoldable pub lengthsOf : List ℤ → ℕ → Answer
-lengthsOf t room = firstCause (lengthCauses t room) (A.doneWith 0)
+unfoldable pub lengths_of : List ℤ → ℕ → Answer
+lengths_of t room = first_cause (length_causes t room) (A.done_with 0)
 
 -- The answer of the shapes alone.
-unfoldable pub shapesOf : List ℤ → Answer
-shapesOf t = firstCause (shapeCauses t) (A.doneWith 0)
+unfoldable pub shapes_of : List ℤ → Answer
+shapes_of t = first_cause (shape_causes t) (A.done_with 0)
 
 -- The answer: a refusal, or done with all zeros.
-unfoldable pub sizedOf : List ℤ → ℕ → Answer
-sizedOf t room = firstCause (lengthCauses t room ++ shapeCauses t) (A.doneWith 0)
+unfoldable pub sized_of : List ℤ → ℕ → Answer
+sized_of t room = first_cause (length_causes t room ++ shape_causes t) (A.done_with 0)
 
 -- The lent table in the end: the rows in front and the rest as it was; a refusal leaves it as it was.
-unfoldable pub finalRequests : List ℤ → List ℤ → List ℤ
-finalRequests t requests = elim (eqb (sizedOf t (length requests)).number A.done) [ true ↦ replaced (requestEntry t) (shapeCount t * 4) requests | false ↦ requests ]
+unfoldable pub final_requests : List ℤ → List ℤ → List ℤ
+final_requests t requests = elim (eqb (sized_of t (length requests)).number A.done) [ true ↦ replaced (request_entry t) (shape_count t * 4) requests | false ↦ requests ]

@@ -2,9 +2,9 @@
 // offset. Each row's size is its shape's; its first, last and offset are taken as they are, and judged by whoever plans the requests.
 ghost use Rattle.std.specs.Prelude.{◌*◌, ◌/◌, ◌%◌, ◌≤◌, ◌<◌, ◌≡◌, length};
 ghost use Rattle.bounded.specs.Replaced.{replaced};
-ghost use Rattle.request_table.specs.Limits.{greatestRows};
-ghost use Rattle.shape_rule.specs.ShapeTable.{shapeCount, tensorSize};
-ghost use Rattle.shape_rule.specs.Sized.{requestWord, requestEntry, lengthsOf, shapesOf, sizedOf, finalRequests};
+ghost use Rattle.request_table.specs.Limits.{greatest_rows};
+ghost use Rattle.shape_rule.specs.ShapeTable.{shape_count, tensor_size};
+ghost use Rattle.shape_rule.specs.Sized.{request_word, request_entry, lengths_of, shapes_of, sized_of, final_requests};
 
 use answer::Answer;
 use request_table::{GREATEST_ROWS, ROW_WORDS};
@@ -21,8 +21,8 @@ const COLUMNS_ON: usize = SHAPE_WORDS - ROW_WORDS;
 
 // The byte size of a row's tensor, carried as the need, or its refusal.
 fn size_of_row(shapes: &[i32], row: Row) -> Answer
-    requires { row.0 < shapeCount shapes.now }
-    ensures { result ≡ tensorSize shapes.now row.0 }
+    requires { row.0 < shape_count shapes.now }
+    ensures { result ≡ tensor_size shapes.now row.0 }
 {
     let start = row.0 * SHAPE_WORDS;
     let count = words::natural(shapes, start + COUNT_COLUMN) as usize;
@@ -37,8 +37,8 @@ fn size_of_row(shapes: &[i32], row: Row) -> Answer
 
 // The first bad shape, told by its own number with its row; done where there is none.
 fn judge(shapes: &[i32]) -> Answer
-    requires { shapeCount shapes.now ≤ greatestRows }
-    ensures { result ≡ shapesOf shapes.now }
+    requires { shape_count shapes.now ≤ greatest_rows }
+    ensures { result ≡ shapes_of shapes.now }
 {
     let n = shapes.len() / SHAPE_WORDS;
     let mut row = Row(0);
@@ -54,8 +54,8 @@ fn judge(shapes: &[i32]) -> Answer
 
 // The entry of that number in the request table.
 fn request_entry(shapes: &[i32], entry: usize) -> i32
-    requires { entry < shapeCount shapes.now * 4 }
-    ensures { result ≡ requestWord shapes.now (entry / 4) (entry % 4) }
+    requires { entry < shape_count shapes.now * 4 }
+    ensures { result ≡ request_word shapes.now (entry / 4) (entry % 4) }
 {
     let row = Row(entry / ROW_WORDS);
     let column = entry % ROW_WORDS;
@@ -68,8 +68,8 @@ fn request_entry(shapes: &[i32], entry: usize) -> i32
 
 // Stores the requests of all rows in the first entries of the table.
 fn store(shapes: &[i32], requests: &mut [i32])
-    requires { (shapeCount shapes.now ≤ greatestRows) × (shapeCount shapes.now * 4 ≤ length requests.old) }
-    ensures { requests.new ≡ replaced (requestEntry shapes.now) (shapeCount shapes.now * 4) requests.old }
+    requires { (shape_count shapes.now ≤ greatest_rows) × (shape_count shapes.now * 4 ≤ length requests.old) }
+    ensures { requests.new ≡ replaced (request_entry shapes.now) (shape_count shapes.now * 4) requests.old }
 {
     let entries = shapes.len() / SHAPE_WORDS * ROW_WORDS;
     let mut entry = 0;
@@ -81,7 +81,7 @@ fn store(shapes: &[i32], requests: &mut [i32])
 
 // The checks 1 to 3: the tables' lengths.
 fn check_lengths(shapes: &[i32], room: usize) -> Answer
-    ensures { result ≡ lengthsOf shapes.now room }
+    ensures { result ≡ lengths_of shapes.now room }
 {
     let n = shapes.len() / SHAPE_WORDS;
     let ragged = shapes.len() % SHAPE_WORDS != 0;
@@ -91,8 +91,8 @@ fn check_lengths(shapes: &[i32], room: usize) -> Answer
 // The request table of a shape table. Refused: 1, 2 and 3 for the lengths, then the first bad shape by its own number, with its row, and nothing changes;
 // done: all zeros, and the requests in the first entries of `requests`, four each.
 pub fn from_shapes(shapes: &[i32], requests: &mut [i32]) -> Answer
-    ensures answer { result ≡ sizedOf shapes.now (length requests.old) }
-    ensures table { requests.new ≡ finalRequests shapes.now requests.old }
+    ensures answer { result ≡ sized_of shapes.now (length requests.old) }
+    ensures table { requests.new ≡ final_requests shapes.now requests.old }
 {
     let checked = check_lengths(shapes, requests.len());
     if checked.number != Answer::DONE {

@@ -1,8 +1,8 @@
 // The request sheet's bytes (document 01, "The request sheet"; document 02, order 1, for version 2) as a table of requests or of shapes, and a space. What
 // is made of them is not known here.
 ghost use Rattle.std.specs.Prelude.{◌≤◌, ◌++◌, ◌≡◌, length, drop};
-ghost use Rattle.word_lists.specs.WordLists.{wordsFrom};
-ghost use Rattle.sheet_rule.specs.Sheet.{marked, rowWords, wellFormed, sheetOf, wordsRead};
+ghost use Rattle.word_lists.specs.WordLists.{words_from};
+ghost use Rattle.sheet_rule.specs.Sheet.{marked, row_words, well_formed, sheet_of, words_read};
 
 use request_table::{GREATEST_ROWS, ROW_WORDS};
 use shape_rule::SHAPE_WORDS;
@@ -38,7 +38,7 @@ fn is_marked(sheet: &[u8]) -> bool
 
 // How many words a row has; none for a version that there is not.
 fn row_words(version: u32) -> usize
-    ensures { result ≡ rowWords version }
+    ensures { result ≡ row_words version }
 {
     match version {
         REQUEST_VERSION => ROW_WORDS,
@@ -49,7 +49,7 @@ fn row_words(version: u32) -> usize
 
 // Whether mark, version and length are right.
 fn is_well_formed(sheet: &[u8]) -> bool
-    ensures { result ≡ wellFormed sheet.now }
+    ensures { result ≡ well_formed sheet.now }
 {
     let length = sheet.len();
     let words = row_words(word_bytes::unsigned16(sheet, VERSION_PLACE));
@@ -62,15 +62,15 @@ fn is_well_formed(sheet: &[u8]) -> bool
 // Puts so many words, those behind the head, into the first entries of a table.
 fn read_rows(sheet: &[u8], count: usize, words: &mut [i32])
     requires { (11 ≤ length sheet.now) × (count ≤ length words.old) }
-    ensures { words.new ≡ wordsFrom sheet.now 11 count ++ drop count words.old }
+    ensures { words.new ≡ words_from sheet.now 11 count ++ drop count words.old }
 {
     word_lists::read_words(&sheet[HEAD_BYTES..], &mut words[..count]);
 }
 
 // Reads a sheet: the rows' words stand in the first entries of `words`, and the rest stays; a bad sheet changes nothing.
 pub fn read(sheet: &[u8], words: &mut [i32; SHEET_WORDS]) -> Sheet
-    ensures sheet { result ≡ sheetOf sheet.now }
-    ensures table { words.new ≡ wordsRead sheet.now words.old }
+    ensures sheet { result ≡ sheet_of sheet.now }
+    ensures table { words.new ≡ words_read sheet.now words.old }
 {
     if !is_well_formed(sheet) {
         return Sheet::Bad;

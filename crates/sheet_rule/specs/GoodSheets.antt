@@ -8,9 +8,9 @@ use borrow.Author.Tests.{eqb-true, eqb-false, eq-eqb, ne_eqb, leb-true, le-leb, 
 use Rattle.std.proofs.Math.Dec.{leb, eqb}
 use Rattle.std.proofs.Math.ListN.{length, get_or-eq_default}
 use Rattle.bounded.specs.Boolean.{both, both_hold}
-use Rattle.bounded.specs.Causes.{◌⇒◌, by-causes}
-use Rattle.request_table.specs.Limits.{greatestRows}
-use Rattle.sheet_rule.specs.Sheet.{marked, version, rowCount, rowWords, wordCount, sheetBytes, wellFormed}
+use Rattle.bounded.specs.Causes.{◌⇒◌, by_causes}
+use Rattle.request_table.specs.Limits.{greatest_rows}
+use Rattle.sheet_rule.specs.Sheet.{marked, version, row_count, row_words, word_count, sheet_bytes, well_formed}
 
 -- The versions that there are, with the bytes of their rows.
 pub data Form : ℕ → ℕ → Type 0 where
@@ -20,11 +20,11 @@ pub data Form : ℕ → ℕ → Type 0 where
 -- The mark ARN, that version, 11 bytes and so many for each row, and no more rows than a table may have.
 pub record GoodSheet (sheet : List ℕ) (number bytes : ℕ) : Type 0 where
   pub first_byte : get_or sheet 0 0 ≡ 65
-  pub second-byte : get_or sheet 1 0 ≡ 82
-  pub third-byte : get_or sheet 2 0 ≡ 78
-  pub version-is : version sheet ≡ number
-  pub whole : length sheet ≡ 11 + rowCount sheet * bytes
-  pub few : rowCount sheet ≤ greatestRows
+  pub second_byte : get_or sheet 1 0 ≡ 82
+  pub third_byte : get_or sheet 2 0 ≡ 78
+  pub version_is : version sheet ≡ number
+  pub whole : length sheet ≡ 11 + row_count sheet * bytes
+  pub few : row_count sheet ≤ greatest_rows
 
 -- A sheet that is good in one of the forms.
 pub record Good (sheet : List ℕ) : Type 0 where
@@ -34,41 +34,41 @@ pub record Good (sheet : List ℕ) : Type 0 where
   pub good : GoodSheet sheet number bytes
 
 -- A row of a form is so many words.
-pub form-words : {number bytes : ℕ} → Form number bytes → rowWords number * 4 ≡ bytes
-unfolding rowWords
-form-words requests = refl
-form-words shapes = refl
+pub form_words : {number bytes : ℕ} → Form number bytes → row_words number * 4 ≡ bytes
+unfolding row_words
+form_words requests = refl
+form_words shapes = refl
 
 -- No row has more than thirteen.
-pub few_words : (number : ℕ) → rowWords number ≤ 13
-unfolding rowWords
-few_words number = by-causes (λ (n : ℕ). n ≤ 13) ((eqb number 1 ⇒ 4) ∷ (eqb number 2 ⇒ 13) ∷ []) 0 (omega arith, (omega arith, tt)) (λ n. omega arith)
+pub few_words : (number : ℕ) → row_words number ≤ 13
+unfolding row_words
+few_words number = by_causes (λ (n : ℕ). n ≤ 13) ((eqb number 1 ⇒ 4) ∷ (eqb number 2 ⇒ 13) ∷ []) 0 (omega arith, (omega arith, tt)) (λ n. omega arith)
 
 -- Version 1 has four,
-pub request-words : {number : ℕ} → number ≡ 1 → 4 ≡ rowWords number
-unfolding rowWords
-request-words e = rw e
+pub request_words : {number : ℕ} → number ≡ 1 → 4 ≡ row_words number
+unfolding row_words
+request_words e = rw e
 
 -- version 2 thirteen,
-pub shape-words : {number : ℕ} → number ≡ 2 → 13 ≡ rowWords number
-unfolding rowWords
-shape-words e = rw e
+pub shape_words : {number : ℕ} → number ≡ 2 → 13 ≡ row_words number
+unfolding row_words
+shape_words e = rw e
 
 -- and any other none.
-pub no_words : {number : ℕ} → (number ≡ 1 → ⊥) → (number ≡ 2 → ⊥) → 0 ≡ rowWords number
-unfolding rowWords
+pub no_words : {number : ℕ} → (number ≡ 1 → ⊥) → (number ≡ 2 → ⊥) → 0 ≡ row_words number
+unfolding row_words
 no_words {number} f g = rw (ne_eqb number 1 f, ne_eqb number 2 g)
 
 -- Only a form's rows have any.
-form_of : (number : ℕ) → (rowWords number ≡ 0 → ⊥) → Form number (rowWords number * 4)
-unfolding rowWords
+form_of : (number : ℕ) → (row_words number ≡ 0 → ⊥) → Form number (row_words number * 4)
+unfolding row_words
 form_of zero f = absurd (f refl)
 form_of (suc zero) f = requests
 form_of (suc (suc zero)) f = shapes
 form_of (suc (suc (suc n))) f = absurd (f (sym (no_words {number = suc (suc (suc n))} (λ z. omega arith) (λ z. omega arith))))
 
-some_words : {number bytes : ℕ} → Form number bytes → rowWords number ≡ 0 → ⊥
-unfolding rowWords
+some_words : {number bytes : ℕ} → Form number bytes → row_words number ≡ 0 → ⊥
+unfolding row_words
 some_words requests z = omega arith
 some_words shapes z = omega arith
 
@@ -83,52 +83,52 @@ unmarked sheet h = rw (get_or-eq_default sheet 0 {n = 2} (omega arith)) (go (eqb
 
 module _ (sheet : List ℕ) where
   -- The test says so,
-  pub well-says : wellFormed sheet ≡ true → Good sheet
-  unfolding wellFormed marked
-  well-says e =
-      let head = ((eqb (get_or sheet 0 0) 65 && eqb (get_or sheet 1 0) 82) && eqb (get_or sheet 2 0) 78) && not (eqb (rowWords (version sheet)) 0) in
-      let x = both head (eqb (length sheet) (sheetBytes (version sheet) (rowCount sheet)) && leb (length sheet) (sheetBytes (version sheet) greatestRows)) e in
-      let y = both ((eqb (get_or sheet 0 0) 65 && eqb (get_or sheet 1 0) 82) && eqb (get_or sheet 2 0) 78) (not (eqb (rowWords (version sheet)) 0)) x.0 in
+  pub well_says : well_formed sheet ≡ true → Good sheet
+  unfolding well_formed marked
+  well_says e =
+      let head = ((eqb (get_or sheet 0 0) 65 && eqb (get_or sheet 1 0) 82) && eqb (get_or sheet 2 0) 78) && not (eqb (row_words (version sheet)) 0) in
+      let x = both head (eqb (length sheet) (sheet_bytes (version sheet) (row_count sheet)) && leb (length sheet) (sheet_bytes (version sheet) greatest_rows)) e in
+      let y = both ((eqb (get_or sheet 0 0) 65 && eqb (get_or sheet 1 0) 82) && eqb (get_or sheet 2 0) 78) (not (eqb (row_words (version sheet)) 0)) x.0 in
       let m = both (eqb (get_or sheet 0 0) 65 && eqb (get_or sheet 1 0) 82) (eqb (get_or sheet 2 0) 78) y.0 in
       let n = both (eqb (get_or sheet 0 0) 65) (eqb (get_or sheet 1 0) 82) m.0 in
-      let l = both (eqb (length sheet) (sheetBytes (version sheet) (rowCount sheet))) (leb (length sheet) (sheetBytes (version sheet) greatestRows)) x.1 in
-      let long : length sheet ≡ 11 + rowCount sheet * rowWords (version sheet) * 4 = eqb-true _ _ l.0 in
-      let limit : length sheet ≤ 11 + greatestRows * rowWords (version sheet) * 4 = leb-true _ _ l.1 in
-      let some = eqb-false (rowWords (version sheet)) 0 (not-true _ y.1) in
+      let l = both (eqb (length sheet) (sheet_bytes (version sheet) (row_count sheet))) (leb (length sheet) (sheet_bytes (version sheet) greatest_rows)) x.1 in
+      let long : length sheet ≡ 11 + row_count sheet * row_words (version sheet) * 4 = eqb-true _ _ l.0 in
+      let limit : length sheet ≤ 11 + greatest_rows * row_words (version sheet) * 4 = leb-true _ _ l.1 in
+      let some = eqb-false (row_words (version sheet)) 0 (not-true _ y.1) in
       record {
         number = version sheet;
-        bytes = rowWords (version sheet) * 4;
+        bytes = row_words (version sheet) * 4;
         form = form_of (version sheet) some;
         good = record {
           first_byte = eqb-true _ _ n.0;
-          second-byte = eqb-true _ _ n.1;
-          third-byte = eqb-true _ _ m.1;
-          version-is = refl;
-          whole = long ∙ ap (λ (k : ℕ). 11 + k) (mul_assoc (rowCount sheet) (rowWords (version sheet)) 4);
-          few = le_of_mul-le-mul_right {k = rowWords (version sheet)} (omega (arith, long, limit)) (omega (arith, some));
+          second_byte = eqb-true _ _ n.1;
+          third_byte = eqb-true _ _ m.1;
+          version_is = refl;
+          whole = long ∙ ap (λ (k : ℕ). 11 + k) (mul_assoc (row_count sheet) (row_words (version sheet)) 4);
+          few = le_of_mul-le-mul_right {k = row_words (version sheet)} (omega (arith, long, limit)) (omega (arith, some));
         };
       }
 
   -- and the other way.
-  pub well-of : {number bytes : ℕ} → Form number bytes → GoodSheet sheet number bytes → wellFormed sheet ≡ true
-  unfolding wellFormed marked
-  well-of {number} f g =
-      let words = ap rowWords g.version-is in
-      let some = ap not (ne_eqb (rowWords (version sheet)) 0 (λ z. some_words f (sym words ∙ z))) in
-      let row = ap (λ (n : ℕ). n * 4) words ∙ form-words f in
-      let long = g.whole ∙ ap (λ (k : ℕ). 11 + rowCount sheet * k) (sym row) ∙ ap (λ (k : ℕ). 11 + k) (sym (mul_assoc (rowCount sheet) (rowWords (version sheet)) 4)) in
-      let limit : length sheet ≤ sheetBytes (version sheet) greatestRows = omega (arith, long, mul-le-mul_right (rowWords (version sheet)) g.few) in
+  pub well_of : {number bytes : ℕ} → Form number bytes → GoodSheet sheet number bytes → well_formed sheet ≡ true
+  unfolding well_formed marked
+  well_of {number} f g =
+      let words = ap row_words g.version_is in
+      let some = ap not (ne_eqb (row_words (version sheet)) 0 (λ z. some_words f (sym words ∙ z))) in
+      let row = ap (λ (n : ℕ). n * 4) words ∙ form_words f in
+      let long = g.whole ∙ ap (λ (k : ℕ). 11 + row_count sheet * k) (sym row) ∙ ap (λ (k : ℕ). 11 + k) (sym (mul_assoc (row_count sheet) (row_words (version sheet)) 4)) in
+      let limit : length sheet ≤ sheet_bytes (version sheet) greatest_rows = omega (arith, long, mul-le-mul_right (row_words (version sheet)) g.few) in
       both_hold _ _
-      (both_hold _ _ (both_hold _ _ (both_hold _ _ (eq-eqb _ _ g.first_byte) (eq-eqb _ _ g.second-byte)) (eq-eqb _ _ g.third-byte)) some)
-      (both_hold _ _ (eq-eqb _ _ long) (le-leb (length sheet) (sheetBytes (version sheet) greatestRows) limit))
+      (both_hold _ _ (both_hold _ _ (both_hold _ _ (eq-eqb _ _ g.first_byte) (eq-eqb _ _ g.second_byte)) (eq-eqb _ _ g.third_byte)) some)
+      (both_hold _ _ (eq-eqb _ _ long) (le-leb (length sheet) (sheet_bytes (version sheet) greatest_rows) limit))
 
   -- A well-formed sheet has a whole head, and no more words than the longest table.
-  pub words-within : wellFormed sheet ≡ true → (11 ≤ length sheet) × (wordCount sheet ≤ greatestRows * 13)
-  words-within e = let w = well-says e in (omega (arith, w.good.whole), mul-le-mul w.good.few (few_words (version sheet)))
+  pub words_within : well_formed sheet ≡ true → (11 ≤ length sheet) × (word_count sheet ≤ greatest_rows * 13)
+  words_within e = let w = well_says e in (omega (arith, w.good.whole), mul-le-mul w.good.few (few_words (version sheet)))
 
   -- Where its version is not the first, it is the second.
-  pub second : wellFormed sheet ≡ true → (version sheet ≡ 1 → ⊥) → version sheet ≡ 2
-  second e f = go (well-says e).form (well-says e).good.version-is
+  pub second : well_formed sheet ≡ true → (version sheet ≡ 1 → ⊥) → version sheet ≡ 2
+  second e f = go (well_says e).form (well_says e).good.version_is
     where
       go : {number bytes : ℕ} → Form number bytes → version sheet ≡ number → version sheet ≡ 2
       go requests v = absurd (f v)

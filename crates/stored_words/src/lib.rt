@@ -1,7 +1,7 @@
 // Words of 32 bits put into little-endian bytes, as `word_bytes` reads them. Every call is allowed: a byte outside the slice is not written, and no place
 // is too far on.
 ghost use Rattle.std.specs.Prelude.{◌≡◌, ◌+◌, set};
-ghost use Rattle.word_bytes.specs.Bytes.{unsignedWord, withWord};
+ghost use Rattle.word_bytes.specs.Bytes.{unsigned_word, with_word};
 
 // Sets the byte some way ahead of a place.
 fn put_byte(bytes: &mut [u8], at: usize, ahead: usize, value: u8)
@@ -17,7 +17,7 @@ fn put_byte(bytes: &mut [u8], at: usize, ahead: usize, value: u8)
 
 // The bits of a signed number.
 fn unsigned(number: i32) -> u32
-    ensures { result ≡ unsignedWord number }
+    ensures { result ≡ unsigned_word number }
 {
     if number < 0 {
         let below = (-1 - number) as u32;
@@ -28,7 +28,7 @@ fn unsigned(number: i32) -> u32
 
 // Sets the four bytes from a place on to the word's.
 pub fn put_word(bytes: &mut [u8], at: usize, word: i32)
-    ensures { bytes.new ≡ withWord bytes.old at word }
+    ensures { bytes.new ≡ with_word bytes.old at word }
 {
     let bits = unsigned(word);
     let second = bits / 256;

@@ -1,7 +1,7 @@
 // Gathering what the uses say of each tensor, one use after the other.
 ghost use Rattle.std.specs.Prelude.{◌≡◌, replicate};
-ghost use Rattle.lifetime_rule.specs.Uses.{greatestTensors};
-ghost use Rattle.tensor_lifetimes.specs.Gathered.{noLifetime, HoldsLifetimes, GoodList};
+ghost use Rattle.lifetime_rule.specs.Uses.{greatest_tensors};
+ghost use Rattle.tensor_lifetimes.specs.Gathered.{no_lifetime, HoldsLifetimes, GoodList};
 
 use known_lifetimes::Lifetime;
 use operator_uses::GREATEST_TENSORS;
@@ -10,7 +10,7 @@ use use_rows::USE_WORDS;
 
 // What is known of each tensor before any use.
 fn no_lifetimes(operators: u32) -> [Lifetime; GREATEST_TENSORS]
-    ensures { result ≡ replicate greatestTensors (noLifetime operators) }
+    ensures { result ≡ replicate greatest_tensors (no_lifetime operators) }
 {
     [Lifetime {
         first: Moment(operators),

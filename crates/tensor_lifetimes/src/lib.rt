@@ -3,12 +3,12 @@
 mod gather;
 
 ghost use Rattle.std.specs.Prelude.{◌*◌, ◌≤◌, ◌≡◌, length};
-ghost use Rattle.bounded.specs.First.{firstIn};
+ghost use Rattle.bounded.specs.First.{first_in};
 ghost use Rattle.bounded.specs.Replaced.{replaced};
 ghost use Rattle.lifetime_rule.specs.Answers.{EachGood};
-ghost use Rattle.lifetime_rule.specs.FromUses.{judgedOf, lifetimesOf, finalLifetimes};
-ghost use Rattle.lifetime_rule.specs.Uses.{count as count_of, greatestTensors, greatestUses};
-ghost use Rattle.tensor_lifetimes.specs.Gathered.{HoldsLifetimes, StorableLifetimes, FewTensors, unnamedIn, earlyIn, storedWord};
+ghost use Rattle.lifetime_rule.specs.FromUses.{judged_of, lifetimes_of, final_lifetimes};
+ghost use Rattle.lifetime_rule.specs.Uses.{count as count_of, greatest_tensors, greatest_uses};
+ghost use Rattle.tensor_lifetimes.specs.Gathered.{HoldsLifetimes, StorableLifetimes, FewTensors, unnamed_in, early_in, stored_word};
 
 use answer::Answer;
 use known_lifetimes::Lifetime;
@@ -18,8 +18,8 @@ use use_rows::{READS, USE_WORDS};
 
 // The lowest tensor that no operator names, else the number of tensors.
 fn lowest_unnamed(operators: u32, tensors: u32, gathered: [Lifetime; GREATEST_TENSORS]) -> Tensor
-    requires { tensors ≤ greatestTensors }
-    ensures { result.0 ≡ firstIn (unnamedIn operators gathered) 0 tensors }
+    requires { tensors ≤ greatest_tensors }
+    ensures { result.0 ≡ first_in (unnamed_in operators gathered) 0 tensors }
 {
     let n = tensors as usize;
     let mut tensor = Tensor(0);
@@ -37,7 +37,7 @@ fn lowest_unnamed(operators: u32, tensors: u32, gathered: [Lifetime; GREATEST_TE
 // The lowest use that reads a tensor before it may be read, else the number of uses.
 fn lowest_early(uses: &[i32], gathered: [Lifetime; GREATEST_TENSORS]) -> usize
     requires { FewTensors uses.now }
-    ensures { result ≡ firstIn (earlyIn uses.now gathered) 0 (count_of uses.now) }
+    ensures { result ≡ first_in (early_in uses.now gathered) 0 (count_of uses.now) }
 {
     let n = uses.len() / USE_WORDS;
     let mut k = 0;
@@ -62,8 +62,8 @@ fn judge(
 ) -> Answer
     requires each_good { EachGood operators tensors uses.now }
     requires holds_lifetimes { HoldsLifetimes operators uses.now gathered }
-    requires tensors_le_greatest_tensors { (tensors ≤ greatestTensors) × (count_of uses.now ≤ greatestUses) }
-    ensures { result ≡ judgedOf operators tensors uses.now }
+    requires tensors_le_greatest_tensors { (tensors ≤ greatest_tensors) × (count_of uses.now ≤ greatest_uses) }
+    ensures { result ≡ judged_of operators tensors uses.now }
 {
     let unnamed = lowest_unnamed(operators, tensors, gathered);
     let early = lowest_early(uses, gathered);
@@ -82,9 +82,9 @@ fn judge(
 
 // Stores the lives of so many tensors, two entries each, in the first entries of the table.
 fn store(tensors: u32, gathered: [Lifetime; GREATEST_TENSORS], lifetimes: &mut [i32])
-    requires tensors_le_greatest_tensors { (tensors ≤ greatestTensors) × (tensors * 2 ≤ length lifetimes.old) }
+    requires tensors_le_greatest_tensors { (tensors ≤ greatest_tensors) × (tensors * 2 ≤ length lifetimes.old) }
     requires storable_lifetimes { StorableLifetimes tensors gathered }
-    ensures { lifetimes.new ≡ replaced (storedWord gathered) (tensors * 2) lifetimes.old }
+    ensures { lifetimes.new ≡ replaced (stored_word gathered) (tensors * 2) lifetimes.old }
 {
     let n = tensors as usize;
     let mut tensor = Tensor(0);
@@ -103,8 +103,8 @@ fn store(tensors: u32, gathered: [Lifetime; GREATEST_TENSORS], lifetimes: &mut [
 // Document 01's lives. Refused: 1, 2, 3, 5, 20, 21, in that order, and nothing changes; done: all zeros, and in the first entries of `lifetimes` the first
 // and the last operator of each tensor's life, which is the last of all for a model output.
 pub fn from_uses(operators: u32, tensors: u32, uses: &[i32], lifetimes: &mut [i32]) -> Answer
-    ensures answer { result ≡ lifetimesOf operators tensors uses.now (length lifetimes.old) }
-    ensures table { lifetimes.new ≡ finalLifetimes operators tensors uses.now lifetimes.old }
+    ensures answer { result ≡ lifetimes_of operators tensors uses.now (length lifetimes.old) }
+    ensures table { lifetimes.new ≡ final_lifetimes operators tensors uses.now lifetimes.old }
 {
     let checked = operator_uses::check(operators, tensors, uses, lifetimes.len());
     if checked.number != Answer::DONE {

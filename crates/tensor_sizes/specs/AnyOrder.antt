@@ -8,12 +8,12 @@ use Rattle.std.proofs.Common.{sym, ◌∙◌, ap}
 use Rattle.std.proofs.Math.Nat.{ℕ_set, mul_left_comm}
 use Rattle.std.specs.Int.Signed.{lt_z}
 use Rattle.words.specs.Words.{natural}
-use Rattle.tensor_sizes.specs.ByteSize.{elements, hasNegative, byteSizeOf}
+use Rattle.tensor_sizes.specs.ByteSize.{elements, has_negative, byte_size_of}
 
-or-exchanged : (a b c : Bool) → a || (b || c) ≡ b || (a || c)
-or-exchanged true true c = refl
-or-exchanged true false c = refl
-or-exchanged false b c = refl
+or_exchanged : (a b c : Bool) → a || (b || c) ≡ b || (a || c)
+or_exchanged true true c = refl
+or_exchanged true false c = refl
+or_exchanged false b c = refl
 
 counted : (xs : List ℤ) → foldr (λ (z : ℤ) (n : ℕ). suc n) 0 xs ≡ length xs
 counted [] = refl
@@ -25,17 +25,17 @@ module _ {xs ys : List ℤ} (p : Perm xs ys) where
   as_many = sym (counted xs) ∙ Perm.foldr-eq ℕ_set (λ (z : ℤ) (n : ℕ). suc n) (λ a b n. refl) p 0 ∙ counted ys
 
   -- as many elements,
-  pub same-elements : elements xs ≡ elements ys
+  pub same_elements : elements xs ≡ elements ys
   unfolding elements prod
-  same-elements = Perm.foldr-eq ℕ_set ◌*◌ mul_left_comm (Perm.map natural p) 1
+  same_elements = Perm.foldr-eq ℕ_set ◌*◌ mul_left_comm (Perm.map natural p) 1
 
   -- and one below 0 in both or in neither;
-  pub same-negative : hasNegative xs ≡ hasNegative ys
-  unfolding hasNegative
-  same-negative =
-      Perm.foldr-eq Bool-set (λ (z : ℤ) (rest : Bool). lt_z z (pos 0) || rest) (λ a b rest. or-exchanged (lt_z a (pos 0)) (lt_z b (pos 0)) rest) p false
+  pub same_negative : has_negative xs ≡ has_negative ys
+  unfolding has_negative
+  same_negative =
+      Perm.foldr-eq Bool-set (λ (z : ℤ) (rest : Bool). lt_z z (pos 0) || rest) (λ a b rest. or_exchanged (lt_z a (pos 0)) (lt_z b (pos 0)) rest) p false
 
   -- so the answer is the same.
-  pub any_order : (code : ℤ) → byteSizeOf xs code ≡ byteSizeOf ys code
-  unfolding byteSizeOf
-  any_order code = rw (as_many, same-negative, same-elements)
+  pub any_order : (code : ℤ) → byte_size_of xs code ≡ byte_size_of ys code
+  unfolding byte_size_of
+  any_order code = rw (as_many, same_negative, same_elements)

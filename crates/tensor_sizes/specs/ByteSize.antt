@@ -6,13 +6,13 @@ use mathlib.Core.List.{List, [], ◌∷◌, foldr, map, prod}
 use Rattle.std.specs.Int.Signed.{lt_z}
 use Rattle.answer.specs.Answer as A
 use Rattle.answer.specs.declared.Answer.{Answer}
-use Rattle.bounded.specs.Causes.{Cause, ◌⇒◌, firstCause}
-use Rattle.request_table.specs.Limits.{greatestSpace}
+use Rattle.bounded.specs.Causes.{Cause, ◌⇒◌, first_cause}
+use Rattle.request_table.specs.Limits.{greatest_space}
 use Rattle.words.specs.Words.{natural}
 
 -- "up to eight dimensions"
-abbrev pub greatestDimensions : ℕ
-greatestDimensions = 8
+abbrev pub greatest_dimensions : ℕ
+greatest_dimensions = 8
 
 -- The code is one of these.
 unfoldable pub one_of : List ℕ → ℕ → Bool
@@ -20,9 +20,9 @@ one_of codes code = foldr (λ (k : ℕ) (rest : Bool). eqb code k || rest) false
 
 -- "The element size goes by the code: 0, 2 are four bytes; 1, 7 two; 3, 6, 9 one; 4, 8, 10, 12 eight; 11 sixteen; 5 and all other codes are refused": these
 -- have no bytes.
-unfoldable pub elementBytes : ℕ → ℕ
-elementBytes code =
-    firstCause
+unfoldable pub element_bytes : ℕ → ℕ
+element_bytes code =
+    first_cause
     ((one_of (0 ∷ 2 ∷ []) code ⇒ 4)
     ∷ (one_of (1 ∷ 7 ∷ []) code ⇒ 2)
     ∷ (one_of (3 ∷ 6 ∷ 9 ∷ []) code ⇒ 1)
@@ -36,27 +36,27 @@ unfoldable pub elements : List ℤ → ℕ
 elements shape = prod ◌*◌ 1 (map natural shape)
 
 -- "A dimension below 0".
-unfoldable pub hasNegative : List ℤ → Bool
-hasNegative shape = foldr (λ (z : ℤ) (rest : Bool). lt_z z (pos 0) || rest) false shape
+unfoldable pub has_negative : List ℤ → Bool
+has_negative shape = foldr (λ (z : ℤ) (rest : Bool). lt_z z (pos 0) || rest) false shape
 
 -- "A dimension below 0 is number 5 with a = 0, a byte size above 16,777,216 is number 7 with need 0": the shape, once the element's bytes are known.
-abbrev pub dimensionCauses : List ℤ → ℕ → List (Cause Answer)
-dimensionCauses shape bytes =
-    (hasNegative shape ⇒ A.refusedAt A.badRow 0)
-    ∷ (ltb greatestSpace (elements shape * bytes) ⇒ A.refusedNeed A.needExceedsSpace 0)
+abbrev pub dimension_causes : List ℤ → ℕ → List (Cause Answer)
+dimension_causes shape bytes =
+    (has_negative shape ⇒ A.refused_at A.bad_row 0)
+    ∷ (ltb greatest_space (elements shape * bytes) ⇒ A.refused_need A.need_exceeds_space 0)
     ∷ []
 
 -- "Order: 2 for more than eight, then 24, 5, 7."
-abbrev pub sizeCauses : List ℤ → ℤ → List (Cause Answer)
-sizeCauses shape code =
-    (ltb greatestDimensions (length shape) ⇒ A.refused A.tooMany)
-    ∷ (eqb (elementBytes (natural code)) 0 ⇒ A.refused A.badTypeCode)
-    ∷ dimensionCauses shape (elementBytes (natural code))
+abbrev pub size_causes : List ℤ → ℤ → List (Cause Answer)
+size_causes shape code =
+    (ltb greatest_dimensions (length shape) ⇒ A.refused A.too_many)
+    ∷ (eqb (element_bytes (natural code)) 0 ⇒ A.refused A.bad_type_code)
+    ∷ dimension_causes shape (element_bytes (natural code))
 
 -- The answer for a shape and an element of so many bytes.
-unfoldable pub elementsSizeOf : List ℤ → ℕ → Answer
-elementsSizeOf shape bytes = firstCause (dimensionCauses shape bytes) (A.doneWith (elements shape * bytes))
+unfoldable pub elements_size_of : List ℤ → ℕ → Answer
+elements_size_of shape bytes = first_cause (dimension_causes shape bytes) (A.done_with (elements shape * bytes))
 
 -- The answer for a shape and a code: a refusal, or "a byte size, carried as the need".
-unfoldable pub byteSizeOf : List ℤ → ℤ → Answer
-byteSizeOf shape code = firstCause (sizeCauses shape code) (A.doneWith (elements shape * elementBytes (natural code)))
+unfoldable pub byte_size_of : List ℤ → ℤ → Answer
+byte_size_of shape code = first_cause (size_causes shape code) (A.done_with (elements shape * element_bytes (natural code)))

@@ -2,7 +2,7 @@
 -- tells, and is refused.
 use Rattle.std.specs.Prelude.{ℕ, zero, suc, ◌<◌, ◌≤◌, ◌⊎◌, ◌≡◌, refl}
 use Rattle.std.proofs.Common.{inl, inr, arith, ne_eqb}
-use Rattle.tensor_sizes.specs.ByteSize.{one_of, elementBytes}
+use Rattle.tensor_sizes.specs.ByteSize.{one_of, element_bytes}
 
 -- An element of the type with that code has so many bytes.
 pub data Element : ℕ → ℕ → Type 0 where
@@ -20,24 +20,24 @@ pub data Element : ℕ → ℕ → Type 0 where
   uint64 : Element 12 8
 
 -- The definition gives these,
-pub element-bytes : {code bytes : ℕ} → Element code bytes → elementBytes code ≡ bytes
-unfolding one_of elementBytes
-element-bytes float32 = refl
-element-bytes float16 = refl
-element-bytes int32 = refl
-element-bytes uint8 = refl
-element-bytes int64 = refl
-element-bytes bool = refl
-element-bytes int16 = refl
-element-bytes complex64 = refl
-element-bytes int8 = refl
-element-bytes float64 = refl
-element-bytes complex128 = refl
-element-bytes uint64 = refl
+pub element_bytes_lem : {code bytes : ℕ} → Element code bytes → element_bytes code ≡ bytes
+unfolding one_of element_bytes
+element_bytes_lem float32 = refl
+element_bytes_lem float16 = refl
+element_bytes_lem int32 = refl
+element_bytes_lem uint8 = refl
+element_bytes_lem int64 = refl
+element_bytes_lem bool = refl
+element_bytes_lem int16 = refl
+element_bytes_lem complex64 = refl
+element_bytes_lem int8 = refl
+element_bytes_lem float64 = refl
+element_bytes_lem complex128 = refl
+element_bytes_lem uint64 = refl
 
-none-past : (code : ℕ) → 12 < code → elementBytes code ≡ 0
-unfolding one_of elementBytes
-none-past code l =
+none_past : (code : ℕ) → 12 < code → element_bytes code ≡ 0
+unfolding one_of element_bytes
+none_past code l =
     rw (
       ne_eqb code 0 (omega arith),
       ne_eqb code 2 (omega arith),
@@ -54,22 +54,22 @@ none-past code l =
     )
 
 -- and to any other code none.
-pub element-or-none : (code : ℕ) → Element code (elementBytes code) ⊎ (elementBytes code ≡ 0)
-unfolding one_of elementBytes
-element-or-none zero = inl float32
-element-or-none (suc zero) = inl float16
-element-or-none (suc (suc zero)) = inl int32
-element-or-none (suc (suc (suc zero))) = inl uint8
-element-or-none (suc (suc (suc (suc zero)))) = inl int64
-element-or-none (suc (suc (suc (suc (suc zero))))) = inr refl
-element-or-none (suc (suc (suc (suc (suc (suc zero)))))) = inl bool
-element-or-none (suc (suc (suc (suc (suc (suc (suc zero))))))) = inl int16
-element-or-none (suc (suc (suc (suc (suc (suc (suc (suc zero)))))))) = inl complex64
-element-or-none (suc (suc (suc (suc (suc (suc (suc (suc (suc zero))))))))) = inl int8
-element-or-none (suc (suc (suc (suc (suc (suc (suc (suc (suc (suc zero)))))))))) = inl float64
-element-or-none (suc (suc (suc (suc (suc (suc (suc (suc (suc (suc (suc zero))))))))))) = inl complex128
-element-or-none (suc (suc (suc (suc (suc (suc (suc (suc (suc (suc (suc (suc zero)))))))))))) = inl uint64
-element-or-none (suc (suc (suc (suc (suc (suc (suc (suc (suc (suc (suc (suc (suc n))))))))))))) = inr (none-past (suc (suc (suc (suc (suc (suc (suc (suc (suc (suc (suc (suc (suc n))))))))))))) (omega arith))
+pub element_or_none : (code : ℕ) → Element code (element_bytes code) ⊎ (element_bytes code ≡ 0)
+unfolding one_of element_bytes
+element_or_none zero = inl float32
+element_or_none (suc zero) = inl float16
+element_or_none (suc (suc zero)) = inl int32
+element_or_none (suc (suc (suc zero))) = inl uint8
+element_or_none (suc (suc (suc (suc zero)))) = inl int64
+element_or_none (suc (suc (suc (suc (suc zero))))) = inr refl
+element_or_none (suc (suc (suc (suc (suc (suc zero)))))) = inl bool
+element_or_none (suc (suc (suc (suc (suc (suc (suc zero))))))) = inl int16
+element_or_none (suc (suc (suc (suc (suc (suc (suc (suc zero)))))))) = inl complex64
+element_or_none (suc (suc (suc (suc (suc (suc (suc (suc (suc zero))))))))) = inl int8
+element_or_none (suc (suc (suc (suc (suc (suc (suc (suc (suc (suc zero)))))))))) = inl float64
+element_or_none (suc (suc (suc (suc (suc (suc (suc (suc (suc (suc (suc zero))))))))))) = inl complex128
+element_or_none (suc (suc (suc (suc (suc (suc (suc (suc (suc (suc (suc (suc zero)))))))))))) = inl uint64
+element_or_none (suc (suc (suc (suc (suc (suc (suc (suc (suc (suc (suc (suc (suc n))))))))))))) = inr (none_past (suc (suc (suc (suc (suc (suc (suc (suc (suc (suc (suc (suc (suc n))))))))))))) (omega arith))
 
 -- An element has from 1 to 16 bytes.
 pub some_bytes : {code bytes : ℕ} → Element code bytes → (0 < bytes) × (bytes ≤ 16)
@@ -87,16 +87,16 @@ some_bytes complex128 = (omega arith, omega arith)
 some_bytes uint64 = (omega arith, omega arith)
 
 -- No code of an element is above 12.
-pub small-code : {code bytes : ℕ} → Element code bytes → code ≤ 12
-small-code float32 = omega arith
-small-code float16 = omega arith
-small-code int32 = omega arith
-small-code uint8 = omega arith
-small-code int64 = omega arith
-small-code bool = omega arith
-small-code int16 = omega arith
-small-code complex64 = omega arith
-small-code int8 = omega arith
-small-code float64 = omega arith
-small-code complex128 = omega arith
-small-code uint64 = omega arith
+pub small_code : {code bytes : ℕ} → Element code bytes → code ≤ 12
+small_code float32 = omega arith
+small_code float16 = omega arith
+small_code int32 = omega arith
+small_code uint8 = omega arith
+small_code int64 = omega arith
+small_code bool = omega arith
+small_code int16 = omega arith
+small_code complex64 = omega arith
+small_code int8 = omega arith
+small_code float64 = omega arith
+small_code complex128 = omega arith
+small_code uint64 = omega arith

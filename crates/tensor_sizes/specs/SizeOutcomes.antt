@@ -11,22 +11,22 @@ use borrow.Author.Tests.{lt-ltb, le-ltb, ltb-false, eq-eqb}
 use Rattle.std.proofs.Math.Dec.{T}
 use Rattle.std.proofs.Math.ListN.{length}
 use Rattle.std.specs.Int.Signed.{lt_z, lt_z_yes, lt_z_no, clash_ℤ}
-use Rattle.answer.specs.Answer.{refused, refusedAt, refusedNeed, doneWith, tooMany, badTypeCode, badRow, needExceedsSpace}
+use Rattle.answer.specs.Answer.{refused, refused_at, refused_need, done_with, too_many, bad_type_code, bad_row, need_exceeds_space}
 use Rattle.answer.specs.declared.Answer.{Answer}
-use Rattle.bounded.specs.Boolean.{lt-or-le, contrary}
-use Rattle.bounded.specs.Causes.{given, next, none_left, by-causes}
-use Rattle.request_table.specs.Limits.{greatestSpace}
+use Rattle.bounded.specs.Boolean.{lt_or_le, contrary}
+use Rattle.bounded.specs.Causes.{given, next, none_left, by_causes}
+use Rattle.request_table.specs.Limits.{greatest_space}
 use Rattle.words.specs.WordOrders.{within}
 use Rattle.words.specs.Words.{natural, word_at}
-use Rattle.tensor_sizes.specs.ByteSize.{greatestDimensions, elementBytes, elements, hasNegative, sizeCauses, byteSizeOf}
-use Rattle.tensor_sizes.specs.Elements.{Element, element-bytes, element-or-none, some_bytes, small-code}
-use Rattle.tensor_sizes.specs.SizeLaws.{elements-given, negative-told, size-given, elements-decide, negative-seen, negative-stands}
+use Rattle.tensor_sizes.specs.ByteSize.{greatest_dimensions, element_bytes, elements, has_negative, size_causes, byte_size_of}
+use Rattle.tensor_sizes.specs.Elements.{Element, element_bytes_lem, element_or_none, some_bytes, small_code}
+use Rattle.tensor_sizes.specs.SizeLaws.{elements_given, negative_told, size_given, elements_decide, negative_seen, negative_stands}
 
-zero-elements : (shape : List ℤ) (k : ℕ) → k < length shape → word_at shape k ≡ pos 0 → elements shape ≡ 0
+zero_elements : (shape : List ℤ) (k : ℕ) → k < length shape → word_at shape k ≡ pos 0 → elements shape ≡ 0
 unfolding elements prod natural
-zero-elements [] k l z = absurd (omega arith)
-zero-elements (x ∷ xs) zero l z = ap (λ (d : ℤ). natural d * elements xs) z ∙ zero-mul _
-zero-elements (x ∷ xs) (suc k) l z = ap (λ (n : ℕ). natural x * n) (zero-elements xs k (le_of_suc-le-suc l) z) ∙ mul-zero (natural x)
+zero_elements [] k l z = absurd (omega arith)
+zero_elements (x ∷ xs) zero l z = ap (λ (d : ℤ). natural d * elements xs) z ∙ zero-mul _
+zero_elements (x ∷ xs) (suc k) l z = ap (λ (n : ℕ). natural x * n) (zero_elements xs k (le_of_suc-le-suc l) z) ∙ mul-zero (natural x)
 
 module _ (shape : List ℤ) (code : ℤ) where
   -- The code is that of a type whose elements have so many bytes.
@@ -41,66 +41,66 @@ module _ (shape : List ℤ) (code : ℤ) where
 
   -- What the answer may be.
   pub data SizeOutcome : Type 0 where
-    too_many : greatestDimensions < length shape → byteSizeOf shape code ≡ refused tooMany → SizeOutcome
-    no-type : length shape ≤ greatestDimensions → ((bytes : ℕ) → Typed bytes → ⊥) → byteSizeOf shape code ≡ refused badTypeCode → SizeOutcome
-    negative : (bytes k : ℕ) → length shape ≤ greatestDimensions → Typed bytes → k < length shape → word_at shape k <ℤ pos 0
-        → byteSizeOf shape code ≡ refusedAt badRow 0 → SizeOutcome
-    too_large : (bytes : ℕ) → length shape ≤ greatestDimensions → Typed bytes → Natural → greatestSpace < prod ◌*◌ 1 (map natural shape) * bytes
-        → byteSizeOf shape code ≡ refusedNeed needExceedsSpace 0 → SizeOutcome
-    sized : (bytes : ℕ) → length shape ≤ greatestDimensions → Typed bytes → Natural → prod ◌*◌ 1 (map natural shape) * bytes ≤ greatestSpace
-        → byteSizeOf shape code ≡ doneWith (prod ◌*◌ 1 (map natural shape) * bytes) → SizeOutcome
+    too_many_case : greatest_dimensions < length shape → byte_size_of shape code ≡ refused too_many → SizeOutcome
+    no_type : length shape ≤ greatest_dimensions → ((bytes : ℕ) → Typed bytes → ⊥) → byte_size_of shape code ≡ refused bad_type_code → SizeOutcome
+    negative : (bytes k : ℕ) → length shape ≤ greatest_dimensions → Typed bytes → k < length shape → word_at shape k <ℤ pos 0
+        → byte_size_of shape code ≡ refused_at bad_row 0 → SizeOutcome
+    too_large : (bytes : ℕ) → length shape ≤ greatest_dimensions → Typed bytes → Natural → greatest_space < prod ◌*◌ 1 (map natural shape) * bytes
+        → byte_size_of shape code ≡ refused_need need_exceeds_space 0 → SizeOutcome
+    sized : (bytes : ℕ) → length shape ≤ greatest_dimensions → Typed bytes → Natural → prod ◌*◌ 1 (map natural shape) * bytes ≤ greatest_space
+        → byte_size_of shape code ≡ done_with (prod ◌*◌ 1 (map natural shape) * bytes) → SizeOutcome
 
   typed : {bytes : ℕ} → Element (natural code) bytes → Typed bytes
-  typed e = record { key = natural code; code_is = (within code 12 (omega arith) (small-code e)).is; element = e }
+  typed e = record { key = natural code; code_is = (within code 12 (omega arith) (small_code e)).is; element = e }
 
   -- A code has the bytes of its type.
-  pub typed-bytes : {bytes : ℕ} → Typed bytes → elementBytes (natural code) ≡ bytes
+  pub typed_bytes : {bytes : ℕ} → Typed bytes → element_bytes (natural code) ≡ bytes
   unfolding natural
-  typed-bytes t = ap (λ (z : ℤ). elementBytes (natural z)) t.code_is ∙ element-bytes t.element
+  typed_bytes t = ap (λ (z : ℤ). element_bytes (natural z)) t.code_is ∙ element_bytes_lem t.element
 
-  some : {bytes : ℕ} → Typed bytes → elementBytes (natural code) ≡ 0 → ⊥
-  some t z = omega (arith, some_bytes t.element, typed-bytes t, z)
+  some : {bytes : ℕ} → Typed bytes → element_bytes (natural code) ≡ 0 → ⊥
+  some t z = omega (arith, some_bytes t.element, typed_bytes t, z)
 
-  none_below : hasNegative shape ≡ false → Natural
+  none_below : has_negative shape ≡ false → Natural
   none_below e k l = lt_z_no (go (lt_z (word_at shape k) (pos 0)) refl)
     where
       go : (b : Bool) → lt_z (word_at shape k) (pos 0) ≡ b → T (not b)
-      go true n = contrary (negative-seen shape k l n) e
+      go true n = contrary (negative_seen shape k l n) e
       go false n = tt
 
-  none_seen : Natural → hasNegative shape ≡ false
-  none_seen n = go (hasNegative shape) refl
+  none_seen : Natural → has_negative shape ≡ false
+  none_seen n = go (has_negative shape) refl
     where
-      go : (b : Bool) → hasNegative shape ≡ b → b ≡ false
-      go true e = let r = negative-stands shape e in clash_ℤ (lt_z_yes (subst T (sym r.2) tt)) (n r.0 r.1)
+      go : (b : Bool) → has_negative shape ≡ b → b ≡ false
+      go true e = let r = negative_stands shape e in clash_ℤ (lt_z_yes (subst T (sym r.2) tt)) (n r.0 r.1)
       go false e = refl
 
   -- So it is answered.
-  pub size-outcome : SizeOutcome
+  pub size_outcome : SizeOutcome
   unfolding elements
-  size-outcome = go (lt-or-le greatestDimensions (length shape)) (element-or-none (natural code)) (hasNegative shape) refl (lt-or-le greatestSpace (elements shape * elementBytes (natural code)))
+  size_outcome = go (lt_or_le greatest_dimensions (length shape)) (element_or_none (natural code)) (has_negative shape) refl (lt_or_le greatest_space (elements shape * element_bytes (natural code)))
     where
-      go : (greatestDimensions < length shape) ⊎ (length shape ≤ greatestDimensions) → Element (natural code) (elementBytes (natural code)) ⊎ (elementBytes (natural code) ≡ 0)
-          → (b : Bool) → hasNegative shape ≡ b → (greatestSpace < elements shape * elementBytes (natural code)) ⊎ (elements shape * elementBytes (natural code) ≤ greatestSpace) → SizeOutcome
-      go (inl l) x b n s = too_many l (sym (size-given shape code (given (lt-ltb _ _ l))))
-      go (inr l) (inr z) b n s = no-type l (λ bytes t. some t z) (sym (size-given shape code (next (le-ltb _ _ l) (given (eq-eqb _ _ z)))))
+      go : (greatest_dimensions < length shape) ⊎ (length shape ≤ greatest_dimensions) → Element (natural code) (element_bytes (natural code)) ⊎ (element_bytes (natural code) ≡ 0)
+          → (b : Bool) → has_negative shape ≡ b → (greatest_space < elements shape * element_bytes (natural code)) ⊎ (elements shape * element_bytes (natural code) ≤ greatest_space) → SizeOutcome
+      go (inl l) x b n s = too_many_case l (sym (size_given shape code (given (lt-ltb _ _ l))))
+      go (inr l) (inr z) b n s = no_type l (λ bytes t. some t z) (sym (size_given shape code (next (le-ltb _ _ l) (given (eq-eqb _ _ z)))))
       go (inr l) (inl e) true n s =
           let t = typed e in
-          let r = negative-stands shape n in
-          negative _ r.0 l t r.1 (lt_z_yes (subst T (sym r.2) tt)) (sym (elements-decide shape code l (some t)) ∙ sym (negative-told shape _ n))
-      go (inr l) (inl e) false n (inl s) = let t = typed e in too_large _ l t (none_below n) s (sym (elements-decide shape code l (some t)) ∙ sym (elements-given shape _ (next n (given (lt-ltb _ _ s)))))
-      go (inr l) (inl e) false n (inr s) = let t = typed e in sized _ l t (none_below n) s (sym (elements-decide shape code l (some t)) ∙ sym (elements-given shape _ (next n (next (le-ltb _ _ s) none_left))))
+          let r = negative_stands shape n in
+          negative _ r.0 l t r.1 (lt_z_yes (subst T (sym r.2) tt)) (sym (elements_decide shape code l (some t)) ∙ sym (negative_told shape _ n))
+      go (inr l) (inl e) false n (inl s) = let t = typed e in too_large _ l t (none_below n) s (sym (elements_decide shape code l (some t)) ∙ sym (elements_given shape _ (next n (given (lt-ltb _ _ s)))))
+      go (inr l) (inl e) false n (inr s) = let t = typed e in sized _ l t (none_below n) s (sym (elements_decide shape code l (some t)) ∙ sym (elements_given shape _ (next n (next (le-ltb _ _ s) none_left))))
 
   -- No answer has a need above the limit.
-  pub need-within : (byteSizeOf shape code).need ≤ greatestSpace
-  unfolding byteSizeOf
-  need-within =
-      by-causes (λ (x : Answer). x.need ≤ greatestSpace) (sizeCauses shape code) _ (omega arith, (omega arith, (omega arith, (omega arith, tt))))
+  pub need_within : (byte_size_of shape code).need ≤ greatest_space
+  unfolding byte_size_of
+  need_within =
+      by_causes (λ (x : Answer). x.need ≤ greatest_space) (size_causes shape code) _ (omega arith, (omega arith, (omega arith, (omega arith, tt))))
       (λ n. ltb-false _ _ n.1.1.1.0)
 
   -- A dimension of 0 among any others makes the size 0.
-  pub zero-dimension : (bytes k : ℕ) → length shape ≤ greatestDimensions → Typed bytes → Natural → k < length shape → word_at shape k ≡ pos 0
-      → byteSizeOf shape code ≡ doneWith 0
-  zero-dimension bytes k l t n m z =
-      let none : elements shape * elementBytes (natural code) ≡ 0 = ap (λ (e : ℕ). e * elementBytes (natural code)) (zero-elements shape k m z) ∙ zero-mul _ in
-      sym (elements-decide shape code l (some t)) ∙ sym (elements-given shape _ (next (none_seen n) (next (le-ltb greatestSpace (elements shape * elementBytes (natural code)) (omega (arith, none))) none_left))) ∙ ap doneWith none
+  pub zero_dimension : (bytes k : ℕ) → length shape ≤ greatest_dimensions → Typed bytes → Natural → k < length shape → word_at shape k ≡ pos 0
+      → byte_size_of shape code ≡ done_with 0
+  zero_dimension bytes k l t n m z =
+      let none : elements shape * element_bytes (natural code) ≡ 0 = ap (λ (e : ℕ). e * element_bytes (natural code)) (zero_elements shape k m z) ∙ zero-mul _ in
+      sym (elements_decide shape code l (some t)) ∙ sym (elements_given shape _ (next (none_seen n) (next (le-ltb greatest_space (elements shape * element_bytes (natural code)) (omega (arith, none))) none_left))) ∙ ap done_with none

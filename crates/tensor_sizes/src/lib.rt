@@ -1,8 +1,8 @@
 // Sizes from shape and type (document 02, order 1): the bytes of a tensor of so many elements. What a shape or a code means beyond its size is not known
 // here.
 ghost use Rattle.std.specs.Prelude.{◌≡◌, min, ◌+◌, ◌*◌, ◌≤◌, ◌<◌};
-ghost use Rattle.request_table.specs.Limits.{greatestSpace};
-ghost use Rattle.tensor_sizes.specs.ByteSize.{elements as elementsOf, hasNegative, elementsSizeOf, byteSizeOf};
+ghost use Rattle.request_table.specs.Limits.{greatest_space};
+ghost use Rattle.tensor_sizes.specs.ByteSize.{elements as elements_of, has_negative, elements_size_of, byte_size_of};
 
 use answer::Answer;
 
@@ -17,7 +17,7 @@ const TOO_LARGE: u64 = GREATEST_SIZE + 1;
 
 // Whether a dimension is below 0.
 fn has_negative(shape: &[i32]) -> bool
-    ensures { result ≡ hasNegative shape.now }
+    ensures { result ≡ has_negative shape.now }
 {
     let mut at = 0;
     while at < shape.len() {
@@ -31,8 +31,8 @@ fn has_negative(shape: &[i32]) -> bool
 
 // So many times a dimension, but no more than is too large anyway. A dimension of 0 brings any count back to 0.
 fn times(elements: u64, dimension: u32) -> u64
-    requires { elements ≤ greatestSpace + 1 }
-    ensures { result ≡ min (elements * dimension) (greatestSpace + 1) }
+    requires { elements ≤ greatest_space + 1 }
+    ensures { result ≡ min (elements * dimension) (greatest_space + 1) }
 {
     let product = elements * dimension as u64;
     if GREATEST_SIZE < product {
@@ -43,7 +43,7 @@ fn times(elements: u64, dimension: u32) -> u64
 
 // The product of the dimensions, but no more than is too large anyway, so that nothing wraps.
 fn elements(shape: &[i32]) -> u64
-    ensures { result ≡ min (elementsOf shape.now) (greatestSpace + 1) }
+    ensures { result ≡ min (elements_of shape.now) (greatest_space + 1) }
 {
     let mut elements = 1;
     let mut at = 0;
@@ -57,7 +57,7 @@ fn elements(shape: &[i32]) -> u64
 // The checks 5 and 7: a dimension below 0, which names no row here, and the byte size, which is not told where it is too large.
 fn size_of(shape: &[i32], bytes: u64) -> Answer
     requires { (0 < bytes) × (bytes ≤ 16) }
-    ensures { result ≡ elementsSizeOf shape.now bytes }
+    ensures { result ≡ elements_size_of shape.now bytes }
 {
     let negative = has_negative(shape);
     let size = elements(shape) * bytes;
@@ -73,7 +73,7 @@ fn size_of(shape: &[i32], bytes: u64) -> Answer
 
 // Document 02's byte size, carried as the need. Refused: 2, 24, 5, 7, in that order.
 pub fn byte_size(dimensions: &[i32], type_code: i32) -> Answer
-    ensures { result ≡ byteSizeOf dimensions.now type_code }
+    ensures { result ≡ byte_size_of dimensions.now type_code }
 {
     if GREATEST_DIMENSIONS < dimensions.len() {
         return Answer::refused(Answer::TOO_MANY);

@@ -2,8 +2,8 @@
 // is none, nothing changes and the next one starts where this one was to.
 ghost use Rattle.std.specs.Prelude.{◌++◌, ◌≡◌};
 ghost use Rattle.decimal_text.specs.Decimal.{decimal};
-ghost use Rattle.text_pieces.specs.Put.{Put, Room, hasRoom, endWith, bytesWith};
-ghost use Rattle.text_pieces.specs.Replied.{toldIn};
+ghost use Rattle.text_pieces.specs.Put.{Put, Room, has_room, end_with, bytes_with};
+ghost use Rattle.text_pieces.specs.Replied.{told_in};
 
 // What asking for a text comes to: so many bytes of text, or too few bytes were lent, which is number 3.
 #[derive(Drop)]
@@ -14,7 +14,7 @@ pub enum Reply {
 
 // The text that was told, in the bytes that were lent for it; none where there was no room.
 pub fn told(reply: Reply, text: &[u8]) -> &[u8]
-    ensures { result.now ≡ toldIn reply text.now }
+    ensures { result.now ≡ told_in reply text.now }
 {
     match reply {
         Reply::Text(count) => {
@@ -29,7 +29,7 @@ pub fn told(reply: Reply, text: &[u8]) -> &[u8]
 
 // Whether so many bytes have room for a piece of a length at a place. No sum is made: the place may be any.
 fn has_room(bytes: usize, at: usize, length: usize) -> bool
-    ensures { result ≡ hasRoom bytes at length }
+    ensures { result ≡ has_room bytes at length }
 {
     if bytes < length {
         return false;
@@ -53,8 +53,8 @@ fn put_whole(text: &mut [u8], at: usize, piece: &[u8]) -> usize
 
 // Puts the bytes of a piece at a place.
 pub fn put_text(text: &mut [u8], at: usize, piece: &[u8]) -> usize
-    ensures end { result ≡ endWith text.old at piece.now }
-    ensures bytes { text.new ≡ bytesWith text.old at piece.now }
+    ensures end { result ≡ end_with text.old at piece.now }
+    ensures bytes { text.new ≡ bytes_with text.old at piece.now }
 {
     if !has_room(text.len(), at, piece.len()) {
         return at;
@@ -64,8 +64,8 @@ pub fn put_text(text: &mut [u8], at: usize, piece: &[u8]) -> usize
 
 // Puts a number in decimal behind some bytes, such as a blank: both, or neither.
 pub fn put_number(text: &mut [u8], at: usize, before: &[u8], number: u64) -> usize
-    ensures end { result ≡ endWith text.old at (before.now ++ decimal number) }
-    ensures bytes { text.new ≡ bytesWith text.old at (before.now ++ decimal number) }
+    ensures end { result ≡ end_with text.old at (before.now ++ decimal number) }
+    ensures bytes { text.new ≡ bytes_with text.old at (before.now ++ decimal number) }
 {
     let mut digits = [0u8; 20];
     let count = io::decimal(number, &mut digits);

@@ -1,8 +1,8 @@
 // The uses of the operator list (document 01, "The desk's order of checks", Lives): a use from its words, whether it is good, the lowest that is not. All
 // is total: any list, any use, any numbers of operators and tensors.
 ghost use Rattle.std.specs.Prelude.{◌≡◌};
-ghost use Rattle.bounded.specs.First.{firstIn};
-ghost use Rattle.lifetime_rule.specs.Uses.{count as count_of, useAt, good, badUse};
+ghost use Rattle.bounded.specs.First.{first_in};
+ghost use Rattle.lifetime_rule.specs.Uses.{count as count_of, use_at, good, bad_use};
 
 use lifetime_rule::Use;
 use units::{Moment, Tensor};
@@ -20,7 +20,7 @@ pub const MODEL_OUTPUT: u32 = 3;
 
 // Use k of the list; past its end, a use of zeros.
 pub fn use_at(uses: &[i32], k: usize) -> Use
-    ensures { result ≡ useAt uses.now k }
+    ensures { result ≡ use_at uses.now k }
 {
     // Past the end every word reads as 0, wherever the use would stand, so that no place is worked out that could overflow.
     if uses.len() <= k {
@@ -54,7 +54,7 @@ fn is_good(operators: u32, tensors: u32, usage: Use) -> bool
 
 // The lowest use that is not good, else the number of uses.
 pub fn lowest_bad_use(operators: u32, tensors: u32, uses: &[i32]) -> usize
-    ensures { result ≡ firstIn (badUse operators tensors uses.now) 0 (count_of uses.now) }
+    ensures { result ≡ first_in (bad_use operators tensors uses.now) 0 (count_of uses.now) }
 {
     let n = uses.len() / USE_WORDS;
     let mut k = 0;

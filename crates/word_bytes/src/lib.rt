@@ -1,7 +1,7 @@
 // Little-endian bytes as words of 32 bits. Every call is allowed: a byte outside the slice reads as 0, and no place is too far on, so that no caller has
 // a bound to show before it reads.
 ghost use Rattle.std.specs.Prelude.{◌≡◌, ◌+◌, get_or};
-ghost use Rattle.word_bytes.specs.Bytes.{littleEndian, signedWord, wordOf};
+ghost use Rattle.word_bytes.specs.Bytes.{little_endian, signed_word, word_of};
 
 // The byte some way ahead of a place. The two are compared with the length one by one, since their sum may not fit.
 fn byte(bytes: &[u8], at: usize, ahead: usize) -> u8
@@ -18,7 +18,7 @@ fn byte(bytes: &[u8], at: usize, ahead: usize) -> u8
 
 // The two bytes from a place on, the lowest first, as an unsigned number.
 pub fn unsigned16(bytes: &[u8], at: usize) -> u32
-    ensures { result ≡ littleEndian bytes.now at 2 }
+    ensures { result ≡ little_endian bytes.now at 2 }
 {
     let low = byte(bytes, at, 0) as u32;
     let high = byte(bytes, at, 1) as u32;
@@ -27,7 +27,7 @@ pub fn unsigned16(bytes: &[u8], at: usize) -> u32
 
 // The four bytes from a place on, the lowest first, as an unsigned number.
 pub fn unsigned32(bytes: &[u8], at: usize) -> u32
-    ensures { result ≡ littleEndian bytes.now at 4 }
+    ensures { result ≡ little_endian bytes.now at 4 }
 {
     let first = byte(bytes, at, 0) as u32;
     let second = byte(bytes, at, 1) as u32;
@@ -38,7 +38,7 @@ pub fn unsigned32(bytes: &[u8], at: usize) -> u32
 
 // 32 bits as a signed number. A negative one is made from -1 down, since no cast may lose bits.
 fn signed(bits: u32) -> i32
-    ensures { result ≡ signedWord bits }
+    ensures { result ≡ signed_word bits }
 {
     if bits < 2147483648 {
         return bits as i32;
@@ -49,7 +49,7 @@ fn signed(bits: u32) -> i32
 
 // The signed word in the four bytes from a place on.
 pub fn word(bytes: &[u8], at: usize) -> i32
-    ensures { result ≡ wordOf bytes.now at }
+    ensures { result ≡ word_of bytes.now at }
 {
     signed(unsigned32(bytes, at))
 }

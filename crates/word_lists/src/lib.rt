@@ -1,15 +1,15 @@
 // Tables of signed words in bytes, four little-endian bytes a word, from the first byte on. Every call is allowed: past the end of the bytes a word
 // reads as 0, and a byte that is not there is not set.
 ghost use Rattle.std.specs.Prelude.{◌≡◌, ◌*◌, length};
-ghost use Rattle.word_bytes.specs.Bytes.{wordOf, withWord};
-ghost use Rattle.word_lists.specs.WordLists.{wordsFrom, with_words};
+ghost use Rattle.word_bytes.specs.Bytes.{word_of, with_word};
+ghost use Rattle.word_lists.specs.WordLists.{words_from, with_words};
 
 // So many bytes are a word.
 pub const WORD_BYTES: usize = 4;
 
 // The word of that number. The number is compared with the words that there are, since four times it may not fit.
 fn word_of(bytes: &[u8], number: usize) -> i32
-    ensures { result ≡ wordOf bytes.now (number * 4) }
+    ensures { result ≡ word_of bytes.now (number * 4) }
 {
     if bytes.len() / WORD_BYTES < number {
         return 0;
@@ -19,7 +19,7 @@ fn word_of(bytes: &[u8], number: usize) -> i32
 
 // Sets the word of that number.
 fn put_word_of(bytes: &mut [u8], number: usize, word: i32)
-    ensures { bytes.new ≡ withWord bytes.old (number * 4) word }
+    ensures { bytes.new ≡ with_word bytes.old (number * 4) word }
 {
     if bytes.len() / WORD_BYTES < number {
         return;
@@ -29,7 +29,7 @@ fn put_word_of(bytes: &mut [u8], number: usize, word: i32)
 
 // Fills a table with the words of the bytes.
 pub fn read_words(bytes: &[u8], table: &mut [i32])
-    ensures { table.new ≡ wordsFrom bytes.now 0 (length table.old) }
+    ensures { table.new ≡ words_from bytes.now 0 (length table.old) }
 {
     let mut number = 0;
     while number < table.len() {

@@ -12,7 +12,7 @@ use lib.Signed.{lt_z, non_neg, mag}
 use mir.Facts.{to_z-of_z}
 use mir.Syntax.{w32}
 use mir.Val.{of_z, to_z, Fits}
-use Rattle.words.specs.Words.{natural, isMinusOne}
+use Rattle.words.specs.Words.{natural, is_minus_one}
 
 -- A word that was read is itself.
 pub read : (x : ℤ) → mag x < 2 ^ 31 → to_z w32 (of_z w32 x) ≡ x
@@ -36,8 +36,8 @@ castable (pos n) h e = (tt, omega arith)
 castable (negsuc n) h e = absurd (true≢false e)
 
 -- The bits are those of −1 exactly where the word is.
-pub minus_one : (x : ℤ) → mag x < 2 ^ 31 → eqb (of_z w32 x) 4294967295 ≡ isMinusOne x
-unfolding isMinusOne
+pub minus_one : (x : ℤ) → mag x < 2 ^ 31 → eqb (of_z w32 x) 4294967295 ≡ is_minus_one x
+unfolding is_minus_one
 minus_one (pos n) h = ne_eqb n 4294967295 (omega arith)
 minus_one (negsuc n) h = go (eqb n 0) refl
   where

@@ -7,9 +7,9 @@ abbrev pub rows_of : ℕ → List ℤ → ℕ
 rows_of width t = length t / width
 
 -- Whether it has nothing but whole rows.
-abbrev pub hasWholeRows : ℕ → List ℤ → Bool
-hasWholeRows width t = eqb (length t % width) 0
+abbrev pub has_whole_rows : ℕ → List ℤ → Bool
+has_whole_rows width t = eqb (length t % width) 0
 
 -- The word in a column of a row.
-abbrev pub wordOf : ℕ → List ℤ → ℕ → ℕ → ℤ
-wordOf width t r column = word_at t (r * width + column)
+abbrev pub word_of : ℕ → List ℤ → ℕ → ℕ → ℤ
+word_of width t r column = word_at t (r * width + column)

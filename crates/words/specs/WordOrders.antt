@@ -2,7 +2,7 @@
 use Rattle.std.specs.Prelude.{ℕ, ◌<◌, ◌≤◌, true, ◌≡◌, refl, T, ℤ, pos, negsuc, ◌≤ℤ◌, ◌<ℤ◌}
 use Rattle.std.proofs.Common.{sym, ◌∙◌, ap, subst, arith, le-leb, lt-ltb, eqb-true, leb→le, ltb→lt}
 use Rattle.std.specs.Int.Signed.{le_z_yes, lt_z_yes}
-use Rattle.words.specs.Words.{natural, isMinusOne}
+use Rattle.words.specs.Words.{natural, is_minus_one}
 
 -- A word within a limit is a natural number within it.
 pub record Within (z : ℤ) (high : ℕ) : Type 0 where
@@ -32,10 +32,10 @@ pub of_lt : (m n : ℕ) → pos m <ℤ pos n → m < n
 of_lt m n h = ltb→lt m n h.lt
 
 -- A word from 0 on is its own natural number.
-pub natural-of : (z : ℤ) → pos 0 ≤ℤ z → z ≡ pos (natural z)
+pub natural_of : (z : ℤ) → pos 0 ≤ℤ z → z ≡ pos (natural z)
 unfolding natural
-natural-of (pos n) h = refl
-natural-of (negsuc n) h = absurd h.le
+natural_of (pos n) h = refl
+natural_of (negsuc n) h = absurd h.le
 
 -- What is at least a word from 0 on is from 0 on.
 pub from_zero : (a b : ℤ) → pos 0 ≤ℤ a → a ≤ℤ b → pos 0 ≤ℤ b
@@ -50,15 +50,15 @@ up_to (pos k) (negsuc m) n p q = absurd p.le
 up_to (negsuc k) b n p q = le_z_yes tt
 
 -- The test for −1 says so.
-pub minus-one-of : (z : ℤ) → isMinusOne z ≡ true → z ≡ negsuc 0
-unfolding isMinusOne
-minus-one-of (pos n) e = absurd (let w : ◌≡◌ {A = ℕ} 0 1 = cc in omega arith)
-minus-one-of (negsuc n) e = ap negsuc (eqb-true n 0 e)
+pub minus_one_of : (z : ℤ) → is_minus_one z ≡ true → z ≡ negsuc 0
+unfolding is_minus_one
+minus_one_of (pos n) e = absurd (let w : ◌≡◌ {A = ℕ} 0 1 = cc in omega arith)
+minus_one_of (negsuc n) e = ap negsuc (eqb-true n 0 e)
 
 -- A word that is some natural number is the one that it reads as.
-pub natural-word : {x : ℤ} {n : ℕ} → x ≡ pos n → x ≡ pos (natural x)
+pub natural_word : {x : ℤ} {n : ℕ} → x ≡ pos n → x ≡ pos (natural x)
 unfolding natural
-natural-word e = e ∙ ap pos (sym (ap natural e))
+natural_word e = e ∙ ap pos (sym (ap natural e))
 
 -- Two such words that read as one number are one word.
 pub one_word : (x y : ℤ) → x ≡ pos (natural x) → y ≡ pos (natural y) → natural x ≡ natural y → x ≡ y

@@ -12,6 +12,6 @@ natural (pos n) = n
 natural (negsuc n) = 4294967295
 
 -- Whether the word is −1.
-unfoldable pub isMinusOne : ℤ → Bool
-isMinusOne (pos n) = false
-isMinusOne (negsuc n) = eqb n 0
+unfoldable pub is_minus_one : ℤ → Bool
+is_minus_one (pos n) = false
+is_minus_one (negsuc n) = eqb n 0

@@ -2,7 +2,7 @@
 // Each takes the slice and the place, and a place outside the slice reads as 0, as getD has it, so that any call is allowed.
 ghost use Rattle.std.specs.Prelude.{◌≡◌, pos};
 ghost use Rattle.std.specs.Int.Signed.{lt_z};
-ghost use Rattle.words.specs.Words.{word_at, natural as naturalOf, isMinusOne};
+ghost use Rattle.words.specs.Words.{word_at, natural as naturalOf, is_minus_one};
 
 // The word as a natural number; a negative one stands as 4,294,967,295, which is above every limit.
 pub fn natural(table: &[i32], at: usize) -> u32
@@ -20,7 +20,7 @@ pub fn natural(table: &[i32], at: usize) -> u32
 
 // Whether the word is -1.
 pub fn is_minus_one(table: &[i32], at: usize) -> bool
-    ensures { result ≡ isMinusOne (word_at table.now at) }
+    ensures { result ≡ is_minus_one (word_at table.now at) }
 {
     if at < table.len() {
         let word = table[at];

@@ -3,7 +3,7 @@ use mathlib.Core.Path.{◌≡◌, sym, ◌∙◌, ap}
 use native.Mathlib.Omega.{arith}
 use borrow.Author.Rules.{rules}
 use Rattle.answer.specs.Answer.{number_of}
-use Rattle.access_rule.specs.Answers.{Sized, lengths-passed, lengths-stand, inspection-stands, touches-decide, touches-done}
+use Rattle.access_rule.specs.Answers.{Sized, lengths_passed, lengths_stand, inspection_stands, touches_decide, touches_done}
 use Rattle.access_script.proofs.judge.Statement.{statement}
 use Rattle.access_script.proofs.judge.Tie as tie
 
@@ -17,56 +17,56 @@ rejected c z = omega (arith, c.if2.true)
 -- past the checks 1 to 3, what they say
 sized : (c : tie.Else1)
     → Sized c.before.before.before.args.requests.now c.before.before.before.args.offsets.now c.before.before.before.args.accesses.now c.before.before.before.args.room
-sized c = lengths-passed _ _ _ _ (sym (ap number_of c.before.before.check-lengths.ensures) ∙ c.if1.false)
+sized c = lengths_passed _ _ _ _ (sym (ap number_of c.before.before.check-lengths.ensures) ∙ c.if1.false)
 
-check-lengths-requires : tie.Need-check-lengths-requires
-check-lengths-requires c κs = search rules
+check_lengths_requires : tie.Need-check-lengths-requires
+check_lengths_requires c κs = search rules
 
 returns : tie.Need-returns
 returns c =
     let u = c.before.before.before.args in
     let e = c.before.before.check-lengths.ensures in
-    e ∙ lengths-stand _ _ _ _ u.grid u.space u.held (λ z. misshapen c (ap number_of e ∙ z))
+    e ∙ lengths_stand _ _ _ _ u.grid u.space u.held (λ z. misshapen c (ap number_of e ∙ z))
 
-judge-requires : tie.Need-judge-requires
-judge-requires c κs = search rules
+judge_requires : tie.Need-judge-requires
+judge_requires c κs = search rules
 
-returns-2 : tie.Need-returns-2
-returns-2 c =
+returns_2 : tie.Need-returns-2
+returns_2 c =
     let u = c.before.before.before.before.before.before.args in
     let e = c.before.before.judge.ensures in
-    e ∙ inspection-stands _ _ _ _ u.grid u.space u.held (sized c.before.before.before) (λ z. rejected c (ap number_of e ∙ z))
+    e ∙ inspection_stands _ _ _ _ u.grid u.space u.held (sized c.before.before.before) (λ z. rejected c (ap number_of e ∙ z))
 
-judge-accesses-requires : tie.Need-judge-accesses-requires
-judge-accesses-requires c κs = (sized c.before.before.before).few-accesses
+judge_accesses_requires : tie.Need-judge-accesses-requires
+judge_accesses_requires c κs = (sized c.before.before.before).few_accesses
 
-returns-3 : tie.Need-returns-3
-returns-3 c =
+returns_3 : tie.Need-returns-3
+returns_3 c =
     let u = c.before.before.before.before.before.before.before.before.before.args in
     let accepted = sym (ap number_of c.before.before.before.before.before.judge.ensures) ∙ c.before.before.before.if2.false in
     c.before.before.judge-accesses.ensures
-    ∙ touches-decide _ _ _ _ u.grid u.space u.held (sized c.before.before.before.before.before.before) accepted
+    ∙ touches_decide _ _ _ _ u.grid u.space u.held (sized c.before.before.before.before.before.before) accepted
 
-done-requires : tie.Need-done-requires
-done-requires c κs = search rules
+done_requires : tie.Need-done-requires
+done_requires c κs = search rules
 
-returns-4 : tie.Need-returns-4
-returns-4 c =
+returns_4 : tie.Need-returns-4
+returns_4 c =
     let u = c.before.before.before.before.before.before.before.before.before.before.args in
     let accepted = sym (ap number_of c.before.before.before.before.before.before.judge.ensures) ∙ c.before.before.before.before.if2.false in
     c.done.ensures
-    ∙ touches-done _ _ _ _ (sym (ap number_of c.before.before.before.judge-accesses.ensures) ∙ c.before.if3.false)
-    ∙ touches-decide _ _ _ _ u.grid u.space u.held (sized c.before.before.before.before.before.before.before) accepted
+    ∙ touches_done _ _ _ _ (sym (ap number_of c.before.before.before.judge-accesses.ensures) ∙ c.before.if3.false)
+    ∙ touches_decide _ _ _ _ u.grid u.space u.held (sized c.before.before.before.before.before.before.before) accepted
 
-pub judge-spec : {M : Type 1} → statement M
-judge-spec =
+pub judge_spec : {M : Type 1} → statement M
+judge_spec =
     tie.close
     (tie.spec
-    check-lengths-requires
+    check_lengths_requires
     returns
-    judge-requires
-    returns-2
-    judge-accesses-requires
-    returns-3
-    done-requires
-    returns-4)
+    judge_requires
+    returns_2
+    judge_accesses_requires
+    returns_3
+    done_requires
+    returns_4)

@@ -4,47 +4,47 @@ use native.Mathlib.Omega.{arith}
 use Rattle.bench_vectors.proofs.run_lines.Statement.{statement}
 use Rattle.bench_vectors.proofs.run_lines.Tie as tie
 
-abbrev invariant-loop : tie.invariant-loop
-invariant-loop text last line₀ line = Unit {0}
+abbrev invariant_loop : tie.invariant_loop
+invariant_loop text last line₀ line = Unit {0}
 
-abbrev decreases-loop : tie.decreases-loop
-decreases-loop text last line₀ line = last + 1 - line
+abbrev decreases_loop : tie.decreases_loop
+decreases_loop text last line₀ line = last + 1 - line
 
-last-requires : tie.Need-last-requires invariant-loop decreases-loop
-last-requires c κs = tt
+last_requires : tie.Need-last-requires invariant_loop decreases_loop
+last_requires c κs = tt
 
-loop-holds : tie.Need-loop-init invariant-loop decreases-loop
-loop-holds c = tt
+loop_holds : tie.Need-loop-init invariant_loop decreases_loop
+loop_holds c = tt
 
-part-requires : tie.Need-part-requires invariant-loop decreases-loop
-part-requires c κs = tt
+part_requires : tie.Need-part-requires invariant_loop decreases_loop
+part_requires c κs = tt
 
-run-line-requires : tie.Need-run-line-requires invariant-loop decreases-loop
-run-line-requires c κs = tt
+run_line_requires : tie.Need-run-line-requires invariant_loop decreases_loop
+run_line_requires c κs = tt
 
-add-line : tie.Need-overflow-add-line invariant-loop decreases-loop
-add-line c = omega arith
+add_line : tie.Need-overflow-add-line invariant_loop decreases_loop
+add_line c = omega arith
 
-loop-less : tie.Need-loop-smaller invariant-loop decreases-loop
-loop-less c = omega arith
+loop_less : tie.Need-loop-smaller invariant_loop decreases_loop
+loop_less c = omega arith
 
-loop-again : tie.Need-loop-preserved invariant-loop decreases-loop
-loop-again c = tt
+loop_again : tie.Need-loop-preserved invariant_loop decreases_loop
+loop_again c = tt
 
-returns : tie.Need-returns invariant-loop decreases-loop
+returns : tie.Need-returns invariant_loop decreases_loop
 returns c = tt
 
-pub run-lines-spec : {M : Type 1} → statement M
-run-lines-spec =
+pub run_lines_spec : {M : Type 1} → statement M
+run_lines_spec =
     tie.close
     (tie.spec
-    invariant-loop
-    decreases-loop
-    last-requires
-    loop-holds
-    part-requires
-    run-line-requires
-    add-line
-    loop-less
-    loop-again
+    invariant_loop
+    decreases_loop
+    last_requires
+    loop_holds
+    part_requires
+    run_line_requires
+    add_line
+    loop_less
+    loop_again
     returns)

@@ -7,11 +7,11 @@ use Rattle.buffers.proofs.on_grid.Tie as tie
 returns : tie.Need-returns
 returns c = rw (c.before.if1.true, mod-zero)
 
-rem-result : tie.Need-nonzero-rem-result
-rem-result c = search rules
+rem_result : tie.Need-nonzero-rem-result
+rem_result c = search rules
 
-returns-2 : tie.Need-returns-2
-returns-2 c = search rules
+returns_2 : tie.Need-returns-2
+returns_2 c = search rules
 
-pub on-grid-spec : {M : Type 1} → statement M
-on-grid-spec = tie.close (tie.spec returns rem-result returns-2)
+pub on_grid_spec : {M : Type 1} → statement M
+on_grid_spec = tie.close (tie.spec returns rem_result returns_2)

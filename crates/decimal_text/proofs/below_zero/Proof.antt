@@ -3,39 +3,39 @@ use Rattle.std.proofs.Common.{◌-◌, ◌^◌, ◌<◌, pos, sym, ◌∙◌, ar
 use mir.Facts.{to_z_pos}
 use Rattle.word_bytes.proofs.Turned.{fits}
 use Rattle.decimal_text.specs.Spelled.{below}
-use Rattle.decimal_text.specs.SpelledCases.{below-some, below-held, below-not-held}
-use Rattle.decimal_text.proofs.Below.{below-held-whole}
+use Rattle.decimal_text.specs.SpelledCases.{below_some, below_held, below_not_held}
+use Rattle.decimal_text.proofs.Below.{below_held_whole}
 use Rattle.decimal_text.proofs.below_zero.Statement.{statement}
 use Rattle.decimal_text.proofs.below_zero.Tie as tie
 
-no-word-requires : tie.Need-no-word-requires
-no-word-requires c κs = search rules
+no_word_requires : tie.Need-no-word-requires
+no_word_requires c κs = search rules
 
 returns : tie.Need-returns
-returns c = c.no_word.ensures ∙ sym (below-not-held c.before.before.args.magnitude c.before.if1.true)
+returns c = c.no_word.ensures ∙ sym (below_not_held c.before.before.args.magnitude c.before.if1.true)
 
-returns-2 : tie.Need-returns-2
+returns_2 : tie.Need-returns-2
 unfolding below
-returns-2 c = rw c.if2.true (sym (below-held 0 (omega arith)))
+returns_2 c = rw c.if2.true (sym (below_held 0 (omega arith)))
 
-sub-further : tie.Need-overflow-sub-further
-sub-further c = search rules
+sub_further : tie.Need-overflow-sub-further
+sub_further c = search rules
 
-cast-further : tie.Need-overflow-cast-further
-cast-further c = search rules
+cast_further : tie.Need-overflow-cast-further
+cast_further c = search rules
 
-sub-t5 : tie.Need-overflow-sub-t5
-sub-t5 c =
+sub_t5 : tie.Need-overflow-sub-t5
+sub_t5 c =
     let h : c.before.before.args.magnitude - 1 < 2 ^ 31 = omega arith in
     rw (to_z_pos w32 h) (fits (pos (c.before.before.args.magnitude - 1)) h)
 
-returns-3 : tie.Need-returns-3
-returns-3 c =
+returns_3 : tie.Need-returns-3
+returns_3 c =
     let n = c.before.before.args.magnitude in
     let h : n - 1 < 2 ^ 31 = omega arith in
-    rw (to_z_pos w32 h, below-held-whole (n - 1) h, ← below-some n c.if2.false) (sym (below-held n (omega arith)))
+    rw (to_z_pos w32 h, below_held_whole (n - 1) h, ← below_some n c.if2.false) (sym (below_held n (omega arith)))
 
-pub below-zero-spec : {M : Type 1} → statement M
-below-zero-spec =
+pub below_zero_spec : {M : Type 1} → statement M
+below_zero_spec =
     tie.close
-    (tie.spec no-word-requires returns returns-2 sub-further cast-further sub-t5 returns-3)
+    (tie.spec no_word_requires returns returns_2 sub_further cast_further sub_t5 returns_3)

@@ -1,57 +1,57 @@
 -- `decimal_text::natural` meets its contract: the digits that are left, read after the number so far, give the number of the whole text.
 use Rattle.std.proofs.Common.{◌≡◌, ◌-◌, length, drop, refl, ◌∙◌, arith}
-use Rattle.decimal_text.specs.DigitByDigit.{withDigits, spelled, empty-spells-none, one-read, all_read}
+use Rattle.decimal_text.specs.DigitByDigit.{with_digits, spelled, empty_spells_none, one_read, all_read}
 use Rattle.decimal_text.proofs.natural.Statement.{statement}
 use Rattle.decimal_text.proofs.natural.Tie as tie
 
-abbrev invariant-loop : tie.invariant-loop
-invariant-loop text number₀ at₀ number at = withDigits number (drop at text) ≡ withDigits 0 text
+abbrev invariant_loop : tie.invariant_loop
+invariant_loop text number₀ at₀ number at = with_digits number (drop at text) ≡ with_digits 0 text
 
-abbrev decreases-loop : tie.decreases-loop
-decreases-loop text number₀ at₀ number at = length text - at
+abbrev decreases_loop : tie.decreases_loop
+decreases_loop text number₀ at₀ number at = length text - at
 
-returns : tie.Need-returns invariant-loop decreases-loop
-returns c = empty-spells-none c.before.before.args.text.now (omega arith)
+returns : tie.Need-returns invariant_loop decreases_loop
+returns c = empty_spells_none c.before.before.args.text.now (omega arith)
 
-loop-holds : tie.Need-loop-init invariant-loop decreases-loop
-loop-holds c = refl
+loop_holds : tie.Need-loop-init invariant_loop decreases_loop
+loop_holds c = refl
 
-shared-slice-read-with-digit : tie.Need-shared-slice-read-with-digit invariant-loop decreases-loop
-shared-slice-read-with-digit c = omega arith
+shared_slice_read_with_digit : tie.Need-shared-slice-read-with-digit invariant_loop decreases_loop
+shared_slice_read_with_digit c = omega arith
 
-with-digit-requires : tie.Need-with-digit-requires invariant-loop decreases-loop
-with-digit-requires c κs = tt
+with_digit_requires : tie.Need-with-digit-requires invariant_loop decreases_loop
+with_digit_requires c κs = tt
 
-add_at : tie.Need-overflow-add-at invariant-loop decreases-loop
+add_at : tie.Need-overflow-add-at invariant_loop decreases_loop
 add_at c = omega arith
 
-loop-less : tie.Need-loop-smaller invariant-loop decreases-loop
-loop-less c = omega arith
+loop_less : tie.Need-loop-smaller invariant_loop decreases_loop
+loop_less c = omega arith
 
-loop-again : tie.Need-loop-preserved invariant-loop decreases-loop
-loop-again c =
+loop_again : tie.Need-loop-preserved invariant_loop decreases_loop
+loop_again c =
     let loop = c.before.before.before.loop in
     let text = c.before.before.before.before.before.before.args.text.now in
-    rw c.with-digit.ensures (one-read text loop.number loop.at (withDigits 0 text) (omega arith) loop.invariant)
+    rw c.with-digit.ensures (one_read text loop.number loop.at (with_digits 0 text) (omega arith) loop.invariant)
 
-returns-2 : tie.Need-returns-2 invariant-loop decreases-loop
-returns-2 c =
+returns_2 : tie.Need-returns-2 invariant_loop decreases_loop
+returns_2 c =
     let loop = c.before.loop in
     let text = c.before.before.before.before.args.text.now in
-    all_read text loop.number loop.at (withDigits 0 text) (omega arith) loop.invariant
+    all_read text loop.number loop.at (with_digits 0 text) (omega arith) loop.invariant
     ∙ spelled text c.before.before.if1.false
 
-pub natural-spec : {M : Type 1} → statement M
-natural-spec =
+pub natural_spec : {M : Type 1} → statement M
+natural_spec =
     tie.close
     (tie.spec
-    invariant-loop
-    decreases-loop
+    invariant_loop
+    decreases_loop
     returns
-    loop-holds
-    shared-slice-read-with-digit
-    with-digit-requires
+    loop_holds
+    shared_slice_read_with_digit
+    with_digit_requires
     add_at
-    loop-less
-    loop-again
-    returns-2)
+    loop_less
+    loop_again
+    returns_2)

@@ -6,14 +6,14 @@ use mathlib.Core.Path.{◌≡◌, sym, ◌∙◌, ap, ap₂}
 use native.Mathlib.Omega.{arith}
 use borrow.Author.Rules.{rules}
 use lib.IntN.{ℤ}
-use Rattle.answer.specs.Answer.{number_of, refusedPair, fixedRowsCollide}
-use Rattle.bounded.specs.Pair.{pairBelow, pairFirst, pairSecond, least-pair}
+use Rattle.answer.specs.Answer.{number_of, refused_pair, fixed_rows_collide}
+use Rattle.bounded.specs.Pair.{pair_below, pair_first, pair_second, least_pair}
 use Rattle.request_table.specs.CheckLaws.{Checked, checked}
-use Rattle.request_table.specs.Limits.{greatestRows}
+use Rattle.request_table.specs.Limits.{greatest_rows}
 use Rattle.request_table.specs.Table.{rows}
-use Rattle.greedy_rule.specs.Answers.{check-stands, pair-refused}
-use Rattle.greedy_rule.specs.Plan.{fixedCollide}
-use Rattle.fixed_rows.proofs.FixedPairs.{pair-says, nothing-says}
+use Rattle.greedy_rule.specs.Answers.{check_stands, pair_refused}
+use Rattle.greedy_rule.specs.Plan.{fixed_collide}
+use Rattle.fixed_rows.proofs.FixedPairs.{pair_says, nothing_says}
 use Rattle.greedy_planner.proofs.check.Statement.{statement}
 use Rattle.greedy_planner.proofs.check.Tie as tie
 
@@ -28,79 +28,79 @@ checks : (c : tie.Else1) → Checked c.before.before.before.args.grid c.before.b
 checks c = checked _ _ _ _ (sym (ap number_of c.before.before.check.ensures) ∙ c.if1.false)
 
 -- the pair that was found is the first
-pair : (c : tie.After-a) → (pairBelow (fixedCollide (Grid c) (Table c)) (rows (Table c)) ≡ true) × (c.a.given.0.0.0 ≡ pairFirst (fixedCollide (Grid c) (Table c)) (rows (Table c))) × (c.a.given.0.1.0.0 ≡ pairSecond (fixedCollide (Grid c) (Table c)) (rows (Table c)))
-pair c = pair-says _ _ _ _ (sym c.a.given.1 ∙ c.before.before.first-pair.ensures)
+pair : (c : tie.After-a) → (pair_below (fixed_collide (Grid c) (Table c)) (rows (Table c)) ≡ true) × (c.a.given.0.0.0 ≡ pair_first (fixed_collide (Grid c) (Table c)) (rows (Table c))) × (c.a.given.0.1.0.0 ≡ pair_second (fixed_collide (Grid c) (Table c)) (rows (Table c)))
+pair c = pair_says _ _ _ _ (sym c.a.given.1 ∙ c.before.before.first-pair.ensures)
 
 -- it lies below the number of rows, which is small
-small : (c : tie.After-a) → (c.a.given.0.0.0 < greatestRows) × (c.a.given.0.1.0.0 < greatestRows)
+small : (c : tie.After-a) → (c.a.given.0.0.0 < greatest_rows) × (c.a.given.0.1.0.0 < greatest_rows)
 small c =
     let p = pair c in
-    let l = least-pair (fixedCollide (Grid c) (Table c)) (rows (Table c)) p.0 in
+    let l = least_pair (fixed_collide (Grid c) (Table c)) (rows (Table c)) p.0 in
     let k = (checks c.before.before.before).shaped.few in
     omega (arith, l.rising, l.within, p.1, p.2)
 
-check-requires : tie.Need-check-requires
-check-requires c κs = search rules
+check_requires : tie.Need-check-requires
+check_requires c κs = search rules
 
 returns : tie.Need-returns
 returns c =
     let e = c.before.before.check.ensures in
-    record { refusal = λ h. e ∙ check-stands _ _ _ _ (λ z. h (ap number_of e ∙ z)); passed = λ z. absurd (c.if1.true z) }
+    record { refusal = λ h. e ∙ check_stands _ _ _ _ (λ z. h (ap number_of e ∙ z)); passed = λ z. absurd (c.if1.true z) }
 
-first-pair-requires : tie.Need-first-pair-requires
-first-pair-requires c κs = search rules
+first_pair_requires : tie.Need-first-pair-requires
+first_pair_requires c κs = search rules
 
-enum-known-a : tie.Need-enum-known-a
-enum-known-a c = search rules
+enum_known_a : tie.Need-enum-known-a
+enum_known_a c = search rules
 
-cast-refused-pair : tie.Need-overflow-cast-refused-pair
-cast-refused-pair c = omega (arith, small c.before.before)
+cast_refused_pair : tie.Need-overflow-cast-refused-pair
+cast_refused_pair c = omega (arith, small c.before.before)
 
-cast-refused-pair-2 : tie.Need-overflow-cast-refused-pair-2
-cast-refused-pair-2 c = omega (arith, small c.before.before.before)
+cast_refused_pair_2 : tie.Need-overflow-cast-refused-pair-2
+cast_refused_pair_2 c = omega (arith, small c.before.before.before)
 
-refused-pair-requires : tie.Need-refused-pair-requires
-refused-pair-requires c κs = search rules
+refused_pair_requires : tie.Need-refused-pair-requires
+refused_pair_requires c κs = search rules
 
 enum_told : tie.Need-enum-told
 enum_told c = search rules
 
-done-requires : tie.Need-done-requires
-done-requires c κs = search rules
+done_requires : tie.Need-done-requires
+done_requires c κs = search rules
 
-returns-2 : tie.Need-returns-2
-returns-2 c =
+returns_2 : tie.Need-returns-2
+returns_2 c =
     let p = pair c.before.before.before.before in
     let e = c.refused-pair.ensures in
     record {
-      refusal = λ h. e ∙ ap₂ (refusedPair fixedRowsCollide) p.1 p.2 ∙ pair-refused _ _ _ _ (checks c.before.before.before.before.before.before.before) p.0;
+      refusal = λ h. e ∙ ap₂ (refused_pair fixed_rows_collide) p.1 p.2 ∙ pair_refused _ _ _ _ (checks c.before.before.before.before.before.before.before) p.0;
       passed = λ z. absurd (let y = ap number_of e in omega arith);
     }
 
-returns-3 : tie.Need-returns-3
-returns-3 c =
+returns_3 : tie.Need-returns-3
+returns_3 c =
     record {
       refusal = λ h. absurd (h (ap number_of c.done.ensures));
       passed =
           λ z.
           record {
             checks = checks c.before.before.before.before;
-            apart = nothing-says _ _ (sym c.before.enum_told.given.1 ∙ c.before.before.before.first-pair.ensures);
+            apart = nothing_says _ _ (sym c.before.enum_told.given.1 ∙ c.before.before.before.first-pair.ensures);
           };
     }
 
-pub check-spec : {M : Type 1} → statement M
-check-spec =
+pub check_spec : {M : Type 1} → statement M
+check_spec =
     tie.close
     (tie.spec
-    check-requires
+    check_requires
     returns
-    first-pair-requires
-    enum-known-a
-    cast-refused-pair
-    cast-refused-pair-2
-    refused-pair-requires
+    first_pair_requires
+    enum_known_a
+    cast_refused_pair
+    cast_refused_pair_2
+    refused_pair_requires
     enum_told
-    done-requires
-    returns-2
-    returns-3)
+    done_requires
+    returns_2
+    returns_3)

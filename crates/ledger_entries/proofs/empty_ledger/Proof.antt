@@ -2,7 +2,7 @@
 use mathlib.Core.Path.{ap}
 use borrow.Author.Rules.{rules}
 use lib.ListN.{replicate}
-use Rattle.recording_rule.specs.Ledger.{kindCount}
+use Rattle.recording_rule.specs.Ledger.{kind_count}
 use Rattle.recording_rule.specs.declared.Ledger.{Ledger}
 use Rattle.recording_rule.specs.declared.RecordedAllocation.{RecordedAllocation}
 use Rattle.ledger_entries.proofs.empty_ledger.Statement.{statement}
@@ -10,13 +10,13 @@ use Rattle.ledger_entries.proofs.empty_ledger.Tie as tie
 
 -- a ledger that has the same of every kind
 abbrev all_of : RecordedAllocation → Ledger
-all_of r = record { kinds = replicate kindCount r }
+all_of r = record { kinds = replicate kind_count r }
 
-nothing-recorded-requires : tie.Need-nothing-recorded-requires
-nothing-recorded-requires c κs = search rules
+nothing_recorded_requires : tie.Need-nothing-recorded-requires
+nothing_recorded_requires c κs = search rules
 
 returns : tie.Need-returns
 returns c = ap all_of c.nothing-recorded.ensures
 
-pub empty-ledger-spec : {M : Type 1} → statement M
-empty-ledger-spec = tie.close (tie.spec nothing-recorded-requires returns)
+pub empty_ledger_spec : {M : Type 1} → statement M
+empty_ledger_spec = tie.close (tie.spec nothing_recorded_requires returns)

@@ -8,16 +8,16 @@ use Rattle.recording_rule.specs.Ledger.{balanced}
 use Rattle.ledger_entries.proofs.is_balanced.Statement.{statement}
 use Rattle.ledger_entries.proofs.is_balanced.Tie as tie
 
-some-passes-requires : tie.Need-some-passes-requires
-some-passes-requires c κs = search rules
+some_passes_requires : tie.Need-some-passes-requires
+some_passes_requires c κs = search rules
 
-total-used-requires : tie.Need-total-used-requires
-total-used-requires c κs = search rules
+total_used_requires : tie.Need-total-used-requires
+total_used_requires c κs = search rules
 
 returns : tie.Need-returns
 unfolding balanced
 returns c =
-    ap₂ (λ (total : ℕ) (passes : Bool). eqb total c.before.before.args.taken && not passes) c.total-used.ensures c.before.some-passes.ensures
+    ap₂ (λ (total : ℕ) (passes : Bool). eqb total c.before.before.args.taken && not passes) c.used_total.ensures c.before.some-passes.ensures
 
-pub is-balanced-spec : {M : Type 1} → statement M
-is-balanced-spec = tie.close (tie.spec some-passes-requires total-used-requires returns)
+pub is_balanced_spec : {M : Type 1} → statement M
+is_balanced_spec = tie.close (tie.spec some_passes_requires total_used_requires returns)

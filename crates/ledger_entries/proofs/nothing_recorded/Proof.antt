@@ -6,5 +6,5 @@ use Rattle.ledger_entries.proofs.nothing_recorded.Tie as tie
 returns : tie.Need-returns
 returns c = refl
 
-pub nothing-recorded-spec : {M : Type 1} → statement M
-nothing-recorded-spec = tie.close (tie.spec returns)
+pub nothing_recorded_spec : {M : Type 1} → statement M
+nothing_recorded_spec = tie.close (tie.spec returns)

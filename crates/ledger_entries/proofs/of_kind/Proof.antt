@@ -3,27 +3,27 @@ use mathlib.Core.Path.{sym, ◌∙◌}
 use native.Mathlib.Omega.{arith}
 use borrow.Author.Rules.{rules}
 use lib.ListN.{get_or-eq_default}
-use Rattle.recording_rule.specs.Ledger.{nothingRecorded}
-use Rattle.ledger_entries.proofs.SixKinds.{six-kinds}
+use Rattle.recording_rule.specs.Ledger.{nothing_recorded}
+use Rattle.ledger_entries.proofs.SixKinds.{six_kinds}
 use Rattle.ledger_entries.proofs.of_kind.Statement.{statement}
 use Rattle.ledger_entries.proofs.of_kind.Tie as tie
 
-nothing-recorded-requires : tie.Need-nothing-recorded-requires
-nothing-recorded-requires c κs = search rules
+nothing_recorded_requires : tie.Need-nothing-recorded-requires
+nothing_recorded_requires c κs = search rules
 
 returns : tie.Need-returns
-returns c = c.nothing-recorded.ensures ∙ sym (get_or-eq_default c.before.before.args.t1.kinds nothingRecorded (omega (arith, six-kinds c.before.before.args.t1 _ c.before.before.well-formed.0)))
+returns c = c.nothing-recorded.ensures ∙ sym (get_or-eq_default c.before.before.args.t1.kinds nothing_recorded (omega (arith, six_kinds c.before.before.args.t1 _ c.before.before.well-formed.0)))
 
-mul-result : tie.Need-overflow-mul-result
-mul-result c = search rules
+mul_result : tie.Need-overflow-mul-result
+mul_result c = search rules
 
-element-copy-out-result : tie.Need-element-copy-out-result
-element-copy-out-result c = search rules
+element_copy_out_result : tie.Need-element-copy-out-result
+element_copy_out_result c = search rules
 
-returns-2 : tie.Need-returns-2
-returns-2 c = search rules
+returns_2 : tie.Need-returns-2
+returns_2 c = search rules
 
-pub of-kind-spec : {M : Type 1} → statement M
-of-kind-spec =
+pub of_kind_spec : {M : Type 1} → statement M
+of_kind_spec =
     tie.close
-    (tie.spec nothing-recorded-requires returns mul-result element-copy-out-result returns-2)
+    (tie.spec nothing_recorded_requires returns mul_result element_copy_out_result returns_2)

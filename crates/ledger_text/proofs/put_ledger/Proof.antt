@@ -2,36 +2,36 @@
 use Prim.Native.Nat.{ℕ, ◌-◌, ◌*◌, ◌≤◌}
 use mathlib.Core.Path.{◌≡◌}
 use native.Mathlib.Omega.{arith}
-use Rattle.ledger_text.specs.LedgerText.{recordLine, greatestLine}
-use Rattle.recording_rule.specs.Ledger.{kindCount, ofKind}
-use Rattle.text_pieces.specs.Pieces.{linesBelow, lines_more}
-use Rattle.text_pieces.specs.Put.{Put, put-no-line, put_both, put-length}
+use Rattle.ledger_text.specs.LedgerText.{record_line, greatest_line}
+use Rattle.recording_rule.specs.Ledger.{kind_count, of_kind}
+use Rattle.text_pieces.specs.Pieces.{lines_below, lines_more}
+use Rattle.text_pieces.specs.Put.{Put, put_no_line, put_both, put_length}
 use Rattle.ledger_text.proofs.put_ledger.Statement.{statement}
 use Rattle.ledger_text.proofs.put_ledger.Tie as tie
 
-abbrev invariant-loop : tie.invariant-loop
-invariant-loop text₀ ledger next₀ code₀ text next code =
-    Put text₀ text 0 next (linesBelow (λ (k : ℕ). recordLine k (ofKind ledger k)) code) × (next ≤ greatestLine * code) × (code ≤ kindCount)
+abbrev invariant_loop : tie.invariant_loop
+invariant_loop text₀ ledger next₀ code₀ text next code =
+    Put text₀ text 0 next (lines_below (λ (k : ℕ). record_line k (of_kind ledger k)) code) × (next ≤ greatest_line * code) × (code ≤ kind_count)
 
-abbrev decreases-loop : tie.decreases-loop
-decreases-loop text₀ ledger next₀ code₀ text next code = kindCount - code
+abbrev decreases_loop : tie.decreases_loop
+decreases_loop text₀ ledger next₀ code₀ text next code = kind_count - code
 
-loop-holds : tie.Need-loop-init invariant-loop decreases-loop
-loop-holds c = (put-no-line _ _ _ (omega arith), omega arith, omega arith)
+loop_holds : tie.Need-loop-init invariant_loop decreases_loop
+loop_holds c = (put_no_line _ _ _ (omega arith), omega arith, omega arith)
 
-put-line-requires : tie.Need-put-line-requires invariant-loop decreases-loop
-put-line-requires c κs =
+put_line_requires : tie.Need-put-line-requires invariant_loop decreases_loop
+put_line_requires c κs =
     let at = c.before.before in
-    (c.before.loop-test.true, omega (arith, at.loop.invariant.1, put-length at.loop.invariant.0, at.before.before.requires, c.before.loop-test.true))
+    (c.before.loop-test.true, omega (arith, at.loop.invariant.1, put_length at.loop.invariant.0, at.before.before.requires, c.before.loop-test.true))
 
-add-code : tie.Need-overflow-add-code invariant-loop decreases-loop
-add-code c = omega (arith, c.before.before.before.before.loop-test.true)
+add_code : tie.Need-overflow-add-code invariant_loop decreases_loop
+add_code c = omega (arith, c.before.before.before.before.loop-test.true)
 
-loop-less : tie.Need-loop-smaller invariant-loop decreases-loop
-loop-less c = omega (arith, c.before.before.before.before.loop-test.true)
+loop_less : tie.Need-loop-smaller invariant_loop decreases_loop
+loop_less c = omega (arith, c.before.before.before.before.loop-test.true)
 
-loop-again : tie.Need-loop-preserved invariant-loop decreases-loop
-loop-again c =
+loop_again : tie.Need-loop-preserved invariant_loop decreases_loop
+loop_again c =
     let put = c.before.before.put-line.ensures in
     let at = c.before.before.before.before.before in (
       rw lines_more (put_both at.loop.invariant.0 put.0),
@@ -39,25 +39,25 @@ loop-again c =
       omega (arith, c.before.before.before.before.loop-test.true),
     )
 
-same_length : tie.Need-same-length invariant-loop decreases-loop
-same_length c = put-length c.before.loop.invariant.0
+same_length : tie.Need-same-length invariant_loop decreases_loop
+same_length c = put_length c.before.loop.invariant.0
 
-returns : tie.Need-returns invariant-loop decreases-loop
+returns : tie.Need-returns invariant_loop decreases_loop
 returns c =
     let at = c.before in
-    let e : at.loop.code ≡ kindCount = omega (arith, c.loop-test.false, at.loop.invariant.2) in
+    let e : at.loop.code ≡ kind_count = omega (arith, c.loop-test.false, at.loop.invariant.2) in
     rw e at at.loop.invariant.0
 
-pub put-ledger-spec : {M : Type 1} → statement M
-put-ledger-spec =
+pub put_ledger_spec : {M : Type 1} → statement M
+put_ledger_spec =
     tie.close
     (tie.spec
-    invariant-loop
-    decreases-loop
-    loop-holds
-    put-line-requires
-    add-code
-    loop-less
-    loop-again
+    invariant_loop
+    decreases_loop
+    loop_holds
+    put_line_requires
+    add_code
+    loop_less
+    loop_again
     same_length
     returns)

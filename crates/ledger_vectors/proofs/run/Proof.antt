@@ -6,79 +6,79 @@ use lib.Seq.{length-take-le}
 use Rattle.ledger_vectors.proofs.run.Statement.{statement}
 use Rattle.ledger_vectors.proofs.run.Tie as tie
 
-array-read-allocate-persistent : tie.Need-array-read-allocate-persistent
-array-read-allocate-persistent c = search rules
+array_read_allocate_persistent : tie.Need-array-read-allocate-persistent
+array_read_allocate_persistent c = search rules
 
-array-read-room : tie.Need-array-read-room
-array-read-room c = search rules
+array_read_room : tie.Need-array-read-room
+array_read_room c = search rules
 
-array-read-allocate-persistent-2 : tie.Need-array-read-allocate-persistent-2
-array-read-allocate-persistent-2 c = search rules
+array_read_allocate_persistent_2 : tie.Need-array-read-allocate-persistent-2
+array_read_allocate_persistent_2 c = search rules
 
-array-read-allocate-persistent-3 : tie.Need-array-read-allocate-persistent-3
-array-read-allocate-persistent-3 c = search rules
+array_read_allocate_persistent_3 : tie.Need-array-read-allocate-persistent-3
+array_read_allocate_persistent_3 c = search rules
 
-ledger-requires : tie.Need-ledger-requires
-ledger-requires c κs = search rules
+ledger_requires : tie.Need-ledger-requires
+ledger_requires c κs = search rules
 
-array-read-allocate-persistent-4 : tie.Need-array-read-allocate-persistent-4
-array-read-allocate-persistent-4 c = search rules
+array_read_allocate_persistent_4 : tie.Need-array-read-allocate-persistent-4
+array_read_allocate_persistent_4 c = search rules
 
-array-read-allocate-persistent-5 : tie.Need-array-read-allocate-persistent-5
-array-read-allocate-persistent-5 c = search rules
+array_read_allocate_persistent_5 : tie.Need-array-read-allocate-persistent-5
+array_read_allocate_persistent_5 c = search rules
 
-array-read-allocate-persistent-6 : tie.Need-array-read-allocate-persistent-6
-array-read-allocate-persistent-6 c = search rules
+array_read_allocate_persistent_6 : tie.Need-array-read-allocate-persistent-6
+array_read_allocate_persistent_6 c = search rules
 
-allocate-persistent-requires : tie.Need-allocate-persistent-requires
-allocate-persistent-requires c κs = search rules
+allocate_persistent_requires : tie.Need-allocate-persistent-requires
+allocate_persistent_requires c κs = search rules
 
-print-outcome-requires : tie.Need-print-outcome-requires
-print-outcome-requires c κs = search rules
+print_outcome_requires : tie.Need-print-outcome-requires
+print_outcome_requires c κs = search rules
 
-dots-requires : tie.Need-dots-requires
-dots-requires c κs = search rules
+dots_requires : tie.Need-dots-requires
+dots_requires c κs = search rules
 
-array-read-room-2 : tie.Need-array-read-room-2
-array-read-room-2 c = search rules
+array_read_room_2 : tie.Need-array-read-room-2
+array_read_room_2 c = search rules
 
-cast-room : tie.Need-overflow-cast-room
-cast-room c = search rules
+cast_room : tie.Need-overflow-cast-room
+cast_room c = search rules
 
-array-borrow-prefix-lent : tie.Need-array-borrow-prefix-lent
-array-borrow-prefix-lent c = search rules
+array_borrow_prefix_lent : tie.Need-array-borrow-prefix-lent
+array_borrow_prefix_lent c = search rules
 
-slice-aggregate-print-ledger : tie.Need-slice-aggregate-print-ledger
-slice-aggregate-print-ledger c = sym (length-take-le _ _ (omega (arith, c.before.if1.true, c.before.before.dots.ensures)))
+slice_aggregate_print_ledger : tie.Need-slice-aggregate-print-ledger
+slice_aggregate_print_ledger c = sym (length-take-le _ _ (omega (arith, c.before.if1.true, c.before.before.dots.ensures)))
 
-print-ledger-requires : tie.Need-print-ledger-requires
-print-ledger-requires c κs = search rules
+print_ledger_requires : tie.Need-print-ledger-requires
+print_ledger_requires c κs = search rules
 
 returns : tie.Need-returns
 returns c = search rules
 
-returns-2 : tie.Need-returns-2
-returns-2 c = search rules
+returns_2 : tie.Need-returns-2
+returns_2 c = search rules
 
 pub run_spec : {M : Type 1} → statement M
 run_spec =
     tie.close
     (tie.spec
-    array-read-allocate-persistent
-    array-read-room
-    array-read-allocate-persistent-2
-    array-read-allocate-persistent-3
-    ledger-requires
-    array-read-allocate-persistent-4
-    array-read-allocate-persistent-5
-    array-read-allocate-persistent-6
-    allocate-persistent-requires
-    print-outcome-requires
-    dots-requires
-    array-read-room-2
-    cast-room
-    array-borrow-prefix-lent
-    slice-aggregate-print-ledger
-    print-ledger-requires
+    array_read_allocate_persistent
+    array_read_room
+    array_read_allocate_persistent_2
+    array_read_allocate_persistent_3
+    ledger_requires
+    array_read_allocate_persistent_4
+    array_read_allocate_persistent_5
+    array_read_allocate_persistent_6
+    allocate_persistent_requires
+    print_outcome_requires
+    dots_requires
+    array_read_room_2
+    cast_room
+    array_borrow_prefix_lent
+    slice_aggregate_print_ledger
+    print_ledger_requires
     returns
-    returns-2)
+    returns_2)

@@ -6,83 +6,83 @@ use lib.ListN.{length}
 use Rattle.make_sheet.proofs.make.Statement.{statement}
 use Rattle.make_sheet.proofs.make.Tie as tie
 
-abbrev invariant-loop : tie.invariant-loop
-invariant-loop text whole rows₀ progress₀ line₀ start₀ rows progress line start = (start ≤ length text) × (line ≤ start + 1)
+abbrev invariant_loop : tie.invariant_loop
+invariant_loop text whole rows₀ progress₀ line₀ start₀ rows progress line start = (start ≤ length text) × (line ≤ start + 1)
 
-abbrev decreases-loop : tie.decreases-loop
-decreases-loop text whole rows₀ progress₀ line₀ start₀ rows progress line start = length text - start
+abbrev decreases_loop : tie.decreases_loop
+decreases_loop text whole rows₀ progress₀ line₀ start₀ rows progress line start = length text - start
 
-start-requires : tie.Need-start-requires invariant-loop decreases-loop
-start-requires c κs = tt
+start_requires : tie.Need-start-requires invariant_loop decreases_loop
+start_requires c κs = tt
 
-loop-holds : tie.Need-loop-init invariant-loop decreases-loop
-loop-holds c = omega arith
+loop_holds : tie.Need-loop-init invariant_loop decreases_loop
+loop_holds c = omega arith
 
-find-end-requires : tie.Need-find-end-requires invariant-loop decreases-loop
-find-end-requires c κs = omega arith
+find_end_requires : tie.Need-find-end-requires invariant_loop decreases_loop
+find_end_requires c κs = omega arith
 
-add-if1 : tie.Need-overflow-add-if1 invariant-loop decreases-loop
-add-if1 c = omega arith
+add_if1 : tie.Need-overflow-add-if1 invariant_loop decreases_loop
+add_if1 c = omega arith
 
-line-requires : tie.Need-line-requires invariant-loop decreases-loop
-line-requires c κs = omega arith
+line_requires : tie.Need-line-requires invariant_loop decreases_loop
+line_requires c κs = omega arith
 
-with-line-requires : tie.Need-with-line-requires invariant-loop decreases-loop
-with-line-requires c κs = tt
+with_line_requires : tie.Need-with-line-requires invariant_loop decreases_loop
+with_line_requires c κs = tt
 
-enum-known-next : tie.Need-enum-known-next invariant-loop decreases-loop
-enum-known-next c = search rules
+enum_known_next : tie.Need-enum-known-next invariant_loop decreases_loop
+enum_known_next c = search rules
 
-enum-known-reason : tie.Need-enum-known-reason invariant-loop decreases-loop
-enum-known-reason c = search rules
+enum_known_reason : tie.Need-enum-known-reason invariant_loop decreases_loop
+enum_known_reason c = search rules
 
-tell-requires : tie.Need-tell-requires invariant-loop decreases-loop
-tell-requires c κs = tt
+tell_requires : tie.Need-tell-requires invariant_loop decreases_loop
+tell_requires c κs = tt
 
-returns : tie.Need-returns invariant-loop decreases-loop
+returns : tie.Need-returns invariant_loop decreases_loop
 returns c = tt
 
-add-if2 : tie.Need-overflow-add-if2 invariant-loop decreases-loop
-add-if2 c = omega arith
+add_if2 : tie.Need-overflow-add-if2 invariant_loop decreases_loop
+add_if2 c = omega arith
 
-add_start : tie.Need-overflow-add-start invariant-loop decreases-loop
+add_start : tie.Need-overflow-add-start invariant_loop decreases_loop
 add_start c = omega arith
 
-add-line : tie.Need-overflow-add-line invariant-loop decreases-loop
-add-line c = omega arith
+add_line : tie.Need-overflow-add-line invariant_loop decreases_loop
+add_line c = omega arith
 
-loop-less : tie.Need-loop-smaller invariant-loop decreases-loop
-loop-less c = omega arith
+loop_less : tie.Need-loop-smaller invariant_loop decreases_loop
+loop_less c = omega arith
 
-loop-again : tie.Need-loop-preserved invariant-loop decreases-loop
-loop-again c = omega arith
+loop_again : tie.Need-loop-preserved invariant_loop decreases_loop
+loop_again c = omega arith
 
-finish-requires : tie.Need-finish-requires invariant-loop decreases-loop
-finish-requires c κs = tt
+finish_requires : tie.Need-finish-requires invariant_loop decreases_loop
+finish_requires c κs = tt
 
-returns-2 : tie.Need-returns-2 invariant-loop decreases-loop
-returns-2 c = tt
+returns_2 : tie.Need-returns-2 invariant_loop decreases_loop
+returns_2 c = tt
 
 pub make_spec : {M : Type 1} → statement M
 make_spec =
     tie.close
     (tie.spec
-    invariant-loop
-    decreases-loop
-    start-requires
-    loop-holds
-    find-end-requires
-    add-if1
-    line-requires
-    with-line-requires
-    enum-known-next
-    enum-known-reason
-    tell-requires
+    invariant_loop
+    decreases_loop
+    start_requires
+    loop_holds
+    find_end_requires
+    add_if1
+    line_requires
+    with_line_requires
+    enum_known_next
+    enum_known_reason
+    tell_requires
     returns
-    add-if2
+    add_if2
     add_start
-    add-line
-    loop-less
-    loop-again
-    finish-requires
-    returns-2)
+    add_line
+    loop_less
+    loop_again
+    finish_requires
+    returns_2)

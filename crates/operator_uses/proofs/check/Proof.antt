@@ -4,55 +4,55 @@ use mathlib.Core.Path.{sym, ◌∙◌, ap}
 use native.Mathlib.Omega.{arith}
 use borrow.Author.Rules.{rules}
 use Rattle.answer.specs.Answer.{number_of}
-use Rattle.lifetime_rule.specs.Answers.{Sized, sizes-passed, sizes-stand, use-refused, list-passed}
+use Rattle.lifetime_rule.specs.Answers.{Sized, sizes_passed, sizes_stand, use_refused, list_passed}
 use Rattle.lifetime_rule.specs.Uses.{count}
 use Rattle.operator_uses.proofs.check.Statement.{statement}
 use Rattle.operator_uses.proofs.check.Tie as tie
 
 -- past the checks 1, 2 and 3, what they say
 sized : (c : tie.Else1) → let a = c.before.before.before.args in Sized a.operators a.tensors a.uses.now a.room
-sized c = sizes-passed _ _ _ _ (sym (ap number_of c.before.before.check-sizes.ensures) ∙ c.if1.false)
+sized c = sizes_passed _ _ _ _ (sym (ap number_of c.before.before.check-sizes.ensures) ∙ c.if1.false)
 
-check-sizes-requires : tie.Need-check-sizes-requires
-check-sizes-requires c κs = search rules
+check_sizes_requires : tie.Need-check-sizes-requires
+check_sizes_requires c κs = search rules
 
 returns : tie.Need-returns
-returns c = let e = c.before.before.check-sizes.ensures in e ∙ sizes-stand _ _ _ _ (λ z. c.if1.true (ap number_of e ∙ z))
+returns c = let e = c.before.before.check-sizes.ensures in e ∙ sizes_stand _ _ _ _ (λ z. c.if1.true (ap number_of e ∙ z))
 
-lowest-bad-use-requires : tie.Need-lowest-bad-use-requires
-lowest-bad-use-requires c κs = search rules
+lowest_bad_use_requires : tie.Need-lowest-bad-use-requires
+lowest_bad_use_requires c κs = search rules
 
-cast-refused-at : tie.Need-overflow-cast-refused-at
-cast-refused-at c =
+cast_refused_at : tie.Need-overflow-cast-refused-at
+cast_refused_at c =
     let a = c.before.before.before.before.before.args in
     let l : c.before.lowest-bad-use.result < count a.uses.now = c.if2.true in
-    omega (arith, l, (sized c.before.before).few-uses)
+    omega (arith, l, (sized c.before.before).few_uses)
 
-refused-at-requires : tie.Need-refused-at-requires
-refused-at-requires c κs = search rules
+refused_at_requires : tie.Need-refused-at-requires
+refused_at_requires c κs = search rules
 
-returns-2 : tie.Need-returns-2
-returns-2 c =
+returns_2 : tie.Need-returns-2
+returns_2 c =
     let bad = c.before.before in
-    c.refused-at.ensures ∙ use-refused _ _ _ _ bad.lowest-bad-use.ensures (sized bad.before) c.before.if2.true
+    c.refused-at.ensures ∙ use_refused _ _ _ _ bad.lowest-bad-use.ensures (sized bad.before) c.before.if2.true
 
-done-requires : tie.Need-done-requires
-done-requires c κs = search rules
+done_requires : tie.Need-done-requires
+done_requires c κs = search rules
 
-returns-3 : tie.Need-returns-3
-returns-3 c =
+returns_3 : tie.Need-returns-3
+returns_3 c =
     let bad = c.before.before in
-    c.done.ensures ∙ list-passed _ _ _ _ bad.lowest-bad-use.ensures (sized bad.before) c.before.if2.false
+    c.done.ensures ∙ list_passed _ _ _ _ bad.lowest-bad-use.ensures (sized bad.before) c.before.if2.false
 
-pub check-spec : {M : Type 1} → statement M
-check-spec =
+pub check_spec : {M : Type 1} → statement M
+check_spec =
     tie.close
     (tie.spec
-    check-sizes-requires
+    check_sizes_requires
     returns
-    lowest-bad-use-requires
-    cast-refused-at
-    refused-at-requires
-    returns-2
-    done-requires
-    returns-3)
+    lowest_bad_use_requires
+    cast_refused_at
+    refused_at_requires
+    returns_2
+    done_requires
+    returns_3)

@@ -4,7 +4,7 @@ use borrow.Author.Rules.{rules}
 use lib.ListN.{length}
 use Rattle.answer.specs.Answer.{number_of}
 use Rattle.request_table.specs.CheckLaws.{Checked, checked}
-use Rattle.inspection_rule.specs.Answers.{check-stands, proposal-decides}
+use Rattle.inspection_rule.specs.Answers.{check_stands, proposal_decides}
 use Rattle.plan_inspector.proofs.judge.Statement.{statement}
 use Rattle.plan_inspector.proofs.judge.Tie as tie
 
@@ -12,19 +12,19 @@ use Rattle.plan_inspector.proofs.judge.Tie as tie
 checks : (c : tie.Else1) → Checked c.before.before.before.args.grid c.before.before.before.args.requests.now c.before.before.before.args.space (length c.before.before.before.args.offsets.now)
 checks c = checked _ _ _ _ (sym (ap number_of c.before.before.check.ensures) ∙ c.if1.false)
 
-check-requires : tie.Need-check-requires
-check-requires c κs = search rules
+check_requires : tie.Need-check-requires
+check_requires c κs = search rules
 
 returns : tie.Need-returns
 returns c =
     let e = c.before.before.check.ensures in
-    e ∙ check-stands _ _ _ _ (λ z. c.if1.true (ap number_of e ∙ z))
+    e ∙ check_stands _ _ _ _ (λ z. c.if1.true (ap number_of e ∙ z))
 
-judge-offsets-requires : tie.Need-judge-offsets-requires
-judge-offsets-requires c κs = (checks c).shaped.few
+judge_offsets_requires : tie.Need-judge-offsets-requires
+judge_offsets_requires c κs = (checks c).shaped.few
 
-returns-2 : tie.Need-returns-2
-returns-2 c = c.judge-offsets.ensures ∙ proposal-decides _ _ _ _ (checks c.before)
+returns_2 : tie.Need-returns-2
+returns_2 c = c.judge-offsets.ensures ∙ proposal_decides _ _ _ _ (checks c.before)
 
-pub judge-spec : {M : Type 1} → statement M
-judge-spec = tie.close (tie.spec check-requires returns judge-offsets-requires returns-2)
+pub judge_spec : {M : Type 1} → statement M
+judge_spec = tie.close (tie.spec check_requires returns judge_offsets_requires returns_2)

@@ -2,30 +2,30 @@
 use native.Mathlib.Omega.{arith}
 use borrow.Author.Rules.{rules}
 use Rattle.plan_text.specs.AllOrNothing.{room_says}
-use Rattle.text_pieces.specs.Put.{put_both, put-length}
-use Rattle.text_rule.specs.Text.{planText}
-use Rattle.text_rule.specs.TextLengths.{head-short}
+use Rattle.text_pieces.specs.Put.{put_both, put_length}
+use Rattle.text_rule.specs.Text.{plan_text}
+use Rattle.text_rule.specs.TextLengths.{head_short}
 use Rattle.plan_text.proofs.put_plan.Statement.{statement}
 use Rattle.plan_text.proofs.put_plan.Tie as tie
 
-put-head-requires : tie.Need-put-head-requires
-put-head-requires c κs =
+put_head_requires : tie.Need-put-head-requires
+put_head_requires c κs =
     let start = c.before.before in
-    record { holds = omega (arith, head-short start.args.need, (room_says _ _ start.requires).1) }
+    record { holds = omega (arith, head_short start.args.need, (room_says _ _ start.requires).1) }
 
-put-rows-requires : tie.Need-put-rows-requires
-put-rows-requires c κs =
+put_rows_requires : tie.Need-put-rows-requires
+put_rows_requires c κs =
     let start = c.before.before.before.before.before.before in
     let put = c.before.before.before.put-head.ensures in
     let room = room_says _ _ start.requires in
-    (room.0, omega (arith, head-short start.args.need, room.0, room.1, put.ends, put-length put))
+    (room.0, omega (arith, head_short start.args.need, room.0, room.1, put.ends, put_length put))
 
 same_length : tie.Need-same-length
 same_length c = search rules
 
 returns : tie.Need-returns
-unfolding planText
+unfolding plan_text
 returns c = put_both c.before.before.before.before.before.before.put-head.ensures c.before.before.put-rows.ensures
 
-pub put-plan-spec : {M : Type 1} → statement M
-put-plan-spec = tie.close (tie.spec put-head-requires put-rows-requires same_length returns)
+pub put_plan_spec : {M : Type 1} → statement M
+put_plan_spec = tie.close (tie.spec put_head_requires put_rows_requires same_length returns)

@@ -4,45 +4,45 @@ use mathlib.Core.Path.{◌≡◌}
 use native.Mathlib.Omega.{arith}
 use borrow.Author.Rules.{rules}
 use lib.ListN.{length}
-use Rattle.text_pieces.specs.Put.{Put, put-no-line, put_both, put-length}
+use Rattle.text_pieces.specs.Put.{Put, put_no_line, put_both, put_length}
 use Rattle.text_pieces.specs.Pieces.{lines_more}
-use Rattle.text_rule.specs.Text.{offsetIn, row_line, row_lines}
-use Rattle.text_rule.specs.TextLengths.{row-short}
+use Rattle.text_rule.specs.Text.{offset_in, row_line, row_lines}
+use Rattle.text_rule.specs.TextLengths.{row_short}
 use Rattle.plan_text.proofs.put_rows.Statement.{statement}
 use Rattle.plan_text.proofs.put_rows.Tie as tie
 
-abbrev invariant-loop : tie.invariant-loop
-invariant-loop text₀ at offsets next₀ row₀ text next row =
-    Put text₀ text at next (row_lines (offsetIn offsets) row.0) × (next ≤ at + 22 * row.0) × (row.0 ≤ length offsets)
+abbrev invariant_loop : tie.invariant_loop
+invariant_loop text₀ at offsets next₀ row₀ text next row =
+    Put text₀ text at next (row_lines (offset_in offsets) row.0) × (next ≤ at + 22 * row.0) × (row.0 ≤ length offsets)
 
-abbrev decreases-loop : tie.decreases-loop
-decreases-loop text₀ at offsets next₀ row₀ text next row = length offsets - row.0
+abbrev decreases_loop : tie.decreases_loop
+decreases_loop text₀ at offsets next₀ row₀ text next row = length offsets - row.0
 
-loop-holds : tie.Need-loop-init invariant-loop decreases-loop
-loop-holds c = (put-no-line _ _ _ (omega (arith, c.before.requires)), omega arith, omega arith)
+loop_holds : tie.Need-loop-init invariant_loop decreases_loop
+loop_holds c = (put_no_line _ _ _ (omega (arith, c.before.requires)), omega arith, omega arith)
 
-natural-requires : tie.Need-natural-requires invariant-loop decreases-loop
-natural-requires c κs = search rules
+natural_requires : tie.Need-natural-requires invariant_loop decreases_loop
+natural_requires c κs = search rules
 
 -- the line of the row has its greatest length at most
-short : (c : tie.After-natural invariant-loop decreases-loop)
+short : (c : tie.After-natural invariant_loop decreases_loop)
     → length (row_line c.before.before.before.loop.row.0 c.natural.result) ≤ 22
-short c = row-short _ _ (omega (arith, c.before.before.before.before.before.requires.0, c.before.if1.true)) (omega (arith, c.natural.type-inv))
+short c = row_short _ _ (omega (arith, c.before.before.before.before.before.requires.0, c.before.if1.true)) (omega (arith, c.natural.type-inv))
 
-put-row-requires : tie.Need-put-row-requires invariant-loop decreases-loop
-put-row-requires c κs =
+put_row_requires : tie.Need-put-row-requires invariant_loop decreases_loop
+put_row_requires c κs =
     let at = c.before.before.before.before in
-    record { holds = omega (arith, short c.before, at.loop.invariant.1, put-length at.loop.invariant.0, at.before.before.requires.1, c.before.before.if1.true) }
+    record { holds = omega (arith, short c.before, at.loop.invariant.1, put_length at.loop.invariant.0, at.before.before.requires.1, c.before.before.if1.true) }
 
-add-t7 : tie.Need-overflow-add-t7 invariant-loop decreases-loop
-add-t7 c = omega (arith, c.before.before.before.before.before.before.if1.true)
+add_t7 : tie.Need-overflow-add-t7 invariant_loop decreases_loop
+add_t7 c = omega (arith, c.before.before.before.before.before.before.if1.true)
 
-loop-less : tie.Need-loop-smaller invariant-loop decreases-loop
-loop-less c = omega (arith, c.before.before.before.before.before.before.if1.true)
+loop_less : tie.Need-loop-smaller invariant_loop decreases_loop
+loop_less c = omega (arith, c.before.before.before.before.before.before.if1.true)
 
-loop-again : tie.Need-loop-preserved invariant-loop decreases-loop
-unfolding offsetIn
-loop-again c =
+loop_again : tie.Need-loop-preserved invariant_loop decreases_loop
+unfolding offset_in
+loop_again c =
     let at = c.before.before.before.before.before.before.before.before in
     let put = c.before.before.before.put-row.ensures in
     let read = c.before.before.before.before.before in (
@@ -51,26 +51,26 @@ loop-again c =
       omega (arith, c.before.before.before.before.before.before.if1.true),
     )
 
-same_length : tie.Need-same-length invariant-loop decreases-loop
-same_length c = put-length c.before.before.loop.invariant.0
+same_length : tie.Need-same-length invariant_loop decreases_loop
+same_length c = put_length c.before.before.loop.invariant.0
 
-returns : tie.Need-returns invariant-loop decreases-loop
+returns : tie.Need-returns invariant_loop decreases_loop
 returns c =
     let at = c.before.before in
     let e : at.loop.row.0 ≡ length at.before.before.args.offsets.now = omega (arith, c.if1.false, at.loop.invariant.2) in
     rw e at at.loop.invariant.0
 
-pub put-rows-spec : {M : Type 1} → statement M
-put-rows-spec =
+pub put_rows_spec : {M : Type 1} → statement M
+put_rows_spec =
     tie.close
     (tie.spec
-    invariant-loop
-    decreases-loop
-    loop-holds
-    natural-requires
-    put-row-requires
-    add-t7
-    loop-less
-    loop-again
+    invariant_loop
+    decreases_loop
+    loop_holds
+    natural_requires
+    put_row_requires
+    add_t7
+    loop_less
+    loop_again
     same_length
     returns)

@@ -4,45 +4,45 @@ use mathlib.Core.Path.{◌≡◌, sym, ◌∙◌}
 use borrow.Author.Rules.{rules}
 use borrow.Author.Tests.{not-true, not-false}
 use lib.ListN.{length}
-use Rattle.plan_text.specs.AllOrNothing.{room_for, whole-written, nothing_written}
-use Rattle.plan_text.specs.Written.{hasRoom}
+use Rattle.plan_text.specs.AllOrNothing.{room_for, whole_written, nothing_written}
+use Rattle.plan_text.specs.Written.{has_room}
 use Rattle.text_pieces.specs.Put.{put_whole}
-use Rattle.text_rule.specs.Text.{badSheetText}
-use Rattle.text_rule.specs.TextLengths.{bad-sheet-short}
+use Rattle.text_rule.specs.Text.{bad_sheet_text}
+use Rattle.text_rule.specs.TextLengths.{bad_sheet_short}
 use Rattle.plan_text.proofs.write_bad_sheet.Statement.{statement}
 use Rattle.plan_text.proofs.write_bad_sheet.Tie as tie
 
 -- past the test there is room
-roomy : (c : tie.Else1) → hasRoom 0 (length c.before.before.before.args.text.now) ≡ true
+roomy : (c : tie.Else1) → has_room 0 (length c.before.before.before.args.text.now) ≡ true
 roomy c = sym c.before.has_room.ensures ∙ not-false _ c.if1.false
 
-has-room-requires : tie.Need-has-room-requires
-has-room-requires c κs = search rules
+has_room_requires : tie.Need-has-room-requires
+has_room_requires c κs = search rules
 
 returns : tie.Need-returns
-returns c = nothing_written _ badSheetText (sym c.before.has_room.ensures ∙ not-true _ c.if1.true)
+returns c = nothing_written _ bad_sheet_text (sym c.before.has_room.ensures ∙ not-true _ c.if1.true)
 
-slice-aggregate-put-text : tie.Need-slice-aggregate-put-text
-slice-aggregate-put-text c = search rules
+slice_aggregate_put_text : tie.Need-slice-aggregate-put-text
+slice_aggregate_put_text c = search rules
 
-put-text-requires : tie.Need-put-text-requires
-put-text-requires c κs = search rules
+put_text_requires : tie.Need-put-text-requires
+put_text_requires c κs = search rules
 
 same_length : tie.Need-same-length
 same_length c = search rules
 
-returns-2 : tie.Need-returns-2
-returns-2 c =
+returns_2 : tie.Need-returns-2
+returns_2 c =
     let known = roomy c.before.before.before.before.before in
-    whole-written known (put_whole (room_for _ _ badSheetText known bad-sheet-short) c.before.before.put-text.ensures)
+    whole_written known (put_whole (room_for _ _ bad_sheet_text known bad_sheet_short) c.before.before.put-text.ensures)
 
-pub write-bad-sheet-spec : {M : Type 1} → statement M
-write-bad-sheet-spec =
+pub write_bad_sheet_spec : {M : Type 1} → statement M
+write_bad_sheet_spec =
     tie.close
     (tie.spec
-    has-room-requires
+    has_room_requires
     returns
-    slice-aggregate-put-text
-    put-text-requires
+    slice_aggregate_put_text
+    put_text_requires
     same_length
-    returns-2)
+    returns_2)

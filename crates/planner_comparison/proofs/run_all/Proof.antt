@@ -6,43 +6,43 @@ use lib.ListN.{length}
 use Rattle.planner_comparison.proofs.run_all.Statement.{statement}
 use Rattle.planner_comparison.proofs.run_all.Tie as tie
 
-abbrev invariant-loop : tie.invariant-loop
-invariant-loop tally₀ number₀ tally number = length tally ≡ length tally₀
+abbrev invariant_loop : tie.invariant_loop
+invariant_loop tally₀ number₀ tally number = length tally ≡ length tally₀
 
-abbrev decreases-loop : tie.decreases-loop
-decreases-loop tally₀ number₀ tally number = 5120 - number
+abbrev decreases_loop : tie.decreases_loop
+decreases_loop tally₀ number₀ tally number = 5120 - number
 
-loop-holds : tie.Need-loop-init invariant-loop decreases-loop
-loop-holds c = omega arith
+loop_holds : tie.Need-loop-init invariant_loop decreases_loop
+loop_holds c = omega arith
 
-run-requires : tie.Need-run-requires invariant-loop decreases-loop
-run-requires c κs = tt
+run_requires : tie.Need-run-requires invariant_loop decreases_loop
+run_requires c κs = tt
 
-add-number : tie.Need-overflow-add-number invariant-loop decreases-loop
-add-number c = omega arith
+add_number : tie.Need-overflow-add-number invariant_loop decreases_loop
+add_number c = omega arith
 
-loop-less : tie.Need-loop-smaller invariant-loop decreases-loop
-loop-less c = omega arith
+loop_less : tie.Need-loop-smaller invariant_loop decreases_loop
+loop_less c = omega arith
 
-loop-again : tie.Need-loop-preserved invariant-loop decreases-loop
-loop-again c = omega arith
+loop_again : tie.Need-loop-preserved invariant_loop decreases_loop
+loop_again c = omega arith
 
-same_length : tie.Need-same-length invariant-loop decreases-loop
+same_length : tie.Need-same-length invariant_loop decreases_loop
 same_length c = omega arith
 
-returns : tie.Need-returns invariant-loop decreases-loop
+returns : tie.Need-returns invariant_loop decreases_loop
 returns c = tt
 
-pub run-all-spec : {M : Type 1} → statement M
-run-all-spec =
+pub run_all_spec : {M : Type 1} → statement M
+run_all_spec =
     tie.close
     (tie.spec
-    invariant-loop
-    decreases-loop
-    loop-holds
-    run-requires
-    add-number
-    loop-less
-    loop-again
+    invariant_loop
+    decreases_loop
+    loop_holds
+    run_requires
+    add_number
+    loop_less
+    loop_again
     same_length
     returns)

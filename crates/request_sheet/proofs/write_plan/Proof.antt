@@ -7,12 +7,12 @@ use borrow.Author.Rules.{rules}
 use lib.IntN.{ℤ}
 use lib.ListN.{length, take, drop, length-append}
 use lib.Seq.{length-take-le, take_at}
-use Rattle.text_rule.specs.Text.{answerText, offsetIn}
-use Rattle.request_table.specs.Limits.{greatestRows}
+use Rattle.text_rule.specs.Text.{answer_text, offset_in}
+use Rattle.request_table.specs.Limits.{greatest_rows}
 use Rattle.request_table.specs.Table.{rows}
-use Rattle.reply_rule.specs.Reply.{tableText}
-use Rattle.reply_rule.specs.Replies.{planned-told}
-use Rattle.text_pieces.specs.Replied.{stands-as}
+use Rattle.reply_rule.specs.Reply.{table_text}
+use Rattle.reply_rule.specs.Replies.{planned_told}
+use Rattle.text_pieces.specs.Replied.{stands_as}
 use Rattle.request_sheet.proofs.Writing.{written}
 use Rattle.request_sheet.proofs.write_plan.Statement.{statement}
 use Rattle.request_sheet.proofs.write_plan.Tie as tie
@@ -25,26 +25,26 @@ lent c = length-take-le _ _ (omega (arith, c.before.before.requires.0, c.no-offs
 planned : (c : tie.After-plan) → length c.plan.new.1.1.0 ≡ rows c.before.before.before.before.args.requests.now
 planned c = c.plan.auto.1.1.0 ∙ lent c.before.before
 
-no-offsets-requires : tie.Need-no-offsets-requires
-no-offsets-requires c κs = search rules
+no_offsets_requires : tie.Need-no-offsets-requires
+no_offsets_requires c κs = search rules
 
-array-borrow-prefix-offsets : tie.Need-array-borrow-prefix-offsets
-array-borrow-prefix-offsets c = search rules
+array_borrow_prefix_offsets : tie.Need-array-borrow-prefix-offsets
+array_borrow_prefix_offsets c = search rules
 
-slice-aggregate-plan : tie.Need-slice-aggregate-plan
-slice-aggregate-plan c = sym (lent c.before)
+slice_aggregate_plan : tie.Need-slice-aggregate-plan
+slice_aggregate_plan c = sym (lent c.before)
 
-plan-requires : tie.Need-plan-requires
-plan-requires c κs = search rules
+plan_requires : tie.Need-plan-requires
+plan_requires c κs = search rules
 
-array-share-prefix-offsets : tie.Need-array-share-prefix-offsets
-array-share-prefix-offsets c = simp length-append (omega (arith, planned c.before))
+array_share_prefix_offsets : tie.Need-array-share-prefix-offsets
+array_share_prefix_offsets c = simp length-append (omega (arith, planned c.before))
 
-slice-aggregate-write-answer : tie.Need-slice-aggregate-write-answer
-slice-aggregate-write-answer c = sym (length-take-le _ _ (simp length-append (omega (arith, planned c.before.before))))
+slice_aggregate_write_answer : tie.Need-slice-aggregate-write-answer
+slice_aggregate_write_answer c = sym (length-take-le _ _ (simp length-append (omega (arith, planned c.before.before))))
 
-write-answer-requires : tie.Need-write-answer-requires
-write-answer-requires c κs = search rules
+write_answer_requires : tie.Need-write-answer-requires
+write_answer_requires c κs = search rules
 
 same_length : tie.Need-same-length
 same_length c = search rules
@@ -56,26 +56,26 @@ returns c =
     let t = s.args.requests.now in
     let offsets = p.plan.new.1.1.0 in
     let zeros = p.before.before.no-offsets.result in
-    let lent-to = take (rows t) zeros in
+    let lent_to = take (rows t) zeros in
     let front : take (rows t) (offsets ++ drop (rows t) zeros) ≡ offsets = take_at offsets (drop (rows t) zeros) (rows t) (planned p) in
-    let told : answerText p.plan.result (offsetIn (take (rows t) (offsets ++ drop (rows t) zeros))) (length (take (rows t) (offsets ++ drop (rows t) zeros))) ≡ tableText t s.args.space =
-    ap (λ (xs : List ℤ). answerText p.plan.result (offsetIn xs) (length xs)) front
-    ∙ ap (answerText p.plan.result (offsetIn offsets)) (planned p)
-    ∙ planned-told t s.args.space lent-to offsets p.plan.result (lent p.before.before) p.plan.ensures.0 p.plan.ensures.1 in
-    let few : length (take (rows t) (offsets ++ drop (rows t) zeros)) ≤ greatestRows = omega (arith, ap length front, planned p, s.requires.0) in
-    let whole = written few s.requires.1 c.before.before.write-answer.ensures.0 c.before.before.write-answer.ensures.1 in
-    stands-as told whole
+    let told : answer_text p.plan.result (offset_in (take (rows t) (offsets ++ drop (rows t) zeros))) (length (take (rows t) (offsets ++ drop (rows t) zeros))) ≡ table_text t s.args.space =
+    ap (λ (xs : List ℤ). answer_text p.plan.result (offset_in xs) (length xs)) front
+    ∙ ap (answer_text p.plan.result (offset_in offsets)) (planned p)
+    ∙ planned_told t s.args.space lent_to offsets p.plan.result (lent p.before.before) p.plan.ensures.0 p.plan.ensures.1 in
+    let few : length (take (rows t) (offsets ++ drop (rows t) zeros)) ≤ greatest_rows = omega (arith, ap length front, planned p, s.requires.0) in
+    let whole = written few s.requires.1 c.before.before.write_answer.ensures.0 c.before.before.write_answer.ensures.1 in
+    stands_as told whole
 
 pub write-plan-spec : {M : Type 1} → statement M
 write-plan-spec =
     tie.close
     (tie.spec
-    no-offsets-requires
-    array-borrow-prefix-offsets
-    slice-aggregate-plan
-    plan-requires
-    array-share-prefix-offsets
-    slice-aggregate-write-answer
-    write-answer-requires
+    no_offsets_requires
+    array_borrow_prefix_offsets
+    slice_aggregate_plan
+    plan_requires
+    array_share_prefix_offsets
+    slice_aggregate_write_answer
+    write_answer_requires
     same_length
     returns)

@@ -4,89 +4,89 @@ use mathlib.Core.Path.{◌≡◌, ◌∙◌, ap, ap₂}
 use native.Mathlib.Omega.{arith}
 use borrow.Author.Rules.{rules}
 use lib.ListN.{take, drop}
-use Rattle.shape_rule.specs.ShapeAnswers.{many-dimensions, few-dimensions}
-use Rattle.shape_rule.specs.ShapeTable.{dimensionCount}
-use Rattle.tensor_sizes.specs.ByteSize.{byteSizeOf}
+use Rattle.shape_rule.specs.ShapeAnswers.{many_dimensions, few_dimensions}
+use Rattle.shape_rule.specs.ShapeTable.{dimension_count}
+use Rattle.tensor_sizes.specs.ByteSize.{byte_size_of}
 use Rattle.words.proofs.Signed.{read}
 use Rattle.words.specs.Words.{word_at}
 use Rattle.shaped_requests.proofs.size_of_row.Statement.{statement}
 use Rattle.shaped_requests.proofs.size_of_row.Tie as tie
 
-mul-start : tie.Need-overflow-mul-start
-mul-start c = search rules
+mul_start : tie.Need-overflow-mul-start
+mul_start c = search rules
 
-add-natural : tie.Need-overflow-add-natural
-add-natural c = search rules
+add_natural : tie.Need-overflow-add-natural
+add_natural c = search rules
 
-natural-requires : tie.Need-natural-requires
-natural-requires c κs = search rules
+natural_requires : tie.Need-natural-requires
+natural_requires c κs = search rules
 
-cast-count : tie.Need-overflow-cast-count
-cast-count c = search rules
+cast_count : tie.Need-overflow-cast-count
+cast_count c = search rules
 
-refused-requires : tie.Need-refused-requires
-refused-requires c κs = search rules
+refused_requires : tie.Need-refused-requires
+refused_requires c κs = search rules
 
 returns : tie.Need-returns
-returns c = c.refused.ensures ∙ many-dimensions _ _ (rw c.before.before.natural.ensures at c.before.if1.true)
+returns c = c.refused.ensures ∙ many_dimensions _ _ (rw c.before.before.natural.ensures at c.before.if1.true)
 
-add-first : tie.Need-overflow-add-first
-add-first c = search rules
+add_first : tie.Need-overflow-add-first
+add_first c = search rules
 
-add-end : tie.Need-overflow-add-end
-add-end c = search rules
+add_end : tie.Need-overflow-add-end
+add_end c = search rules
 
-mul-code : tie.Need-overflow-mul-code
-mul-code c = search rules
+mul_code : tie.Need-overflow-mul-code
+mul_code c = search rules
 
-shared-slice-copy-out-code : tie.Need-shared-slice-copy-out-code
-shared-slice-copy-out-code c = search rules
+shared_slice_copy_out_code : tie.Need-shared-slice-copy-out-code
+shared_slice_copy_out_code c = search rules
 
-mul-byte-size : tie.Need-overflow-mul-byte-size
-mul-byte-size c = search rules
+mul_byte_size : tie.Need-overflow-mul-byte-size
+mul_byte_size c = search rules
 
-sub-byte-size : tie.Need-overflow-sub-byte-size
-sub-byte-size c = search rules
+sub_byte_size : tie.Need-overflow-sub-byte-size
+sub_byte_size c = search rules
 
-part-byte-size-start : tie.Need-slice-bounds-byte-size-start
-part-byte-size-start c = search rules
+part_byte_size_start : tie.Need-slice-bounds-byte-size-start
+part_byte_size_start c = search rules
 
-part-byte-size-end : tie.Need-slice-bounds-byte-size-end
-part-byte-size-end c = search rules
+part_byte_size_end : tie.Need-slice-bounds-byte-size-end
+part_byte_size_end c = search rules
 
-byte-size-requires : tie.Need-byte-size-requires
-byte-size-requires c κs = search rules
+byte_size_requires : tie.Need-byte-size-requires
+byte_size_requires c κs = search rules
 
-returns-2 : tie.Need-returns-2
-returns-2 c =
+returns_2 : tie.Need-returns-2
+returns_2 c =
     let code = c.before.before in
     let s = code.before.before.before.before in
     let t = s.args.shapes.now in
     let r = s.args.row.0 in
     let n = code.before.before.natural.ensures in
     let front : r * 13 ≡ r * 13 + 0 = omega arith in
-    let there : r * 13 + 2 + code.before.before.natural.result - (r * 13 + 2) ≡ dimensionCount t r = omega (arith, n) in
+    let there : r * 13 + 2 + code.before.before.natural.result - (r * 13 + 2) ≡ dimension_count t r = omega (arith, n) in
     c.byte-size.ensures
-    ∙ ap₂ byteSizeOf (ap (λ (k : ℕ). take k (drop (r * 13 + 2) t)) there) (read _ code.code.given ∙ ap (word_at t) front)
-    ∙ few-dimensions t r (rw n at code.before.if1.false)
+    ∙ ap₂ byte_size_of (ap (λ (k : ℕ). take k (drop (r * 13 + 2) t)) there) (read _ code.code.given ∙ ap (word_at t) front)
+    ∙ few_dimensions t r (rw n at code.before.if1.false)
 
-pub size-of-row-spec : {M : Type 1} → statement M
-size-of-row-spec =
+pub size_of_row_spec : {M : Type 1} → statement M
+size_of_row_spec =
     tie.close
     (tie.spec
-    mul-start
-    add-natural
-    natural-requires
-    cast-count
-    refused-requires
+    mul_start
+    add_natural
+    natural_requires
+    cast_count
+    refused_requires
     returns
-    add-first
-    add-end
-    mul-code
-    shared-slice-copy-out-code
-    mul-byte-size
-    sub-byte-size
-    part-byte-size-start
-    part-byte-size-end
-    byte-size-requires
-    returns-2)
+    add_first
+    add_end
+    mul_code
+    shared_slice_copy_out_code
+    mul_byte_size
+    sub_byte_size
+    part_byte_size_start
+    part_byte_size_end
+    byte_size_requires
+    returns_2)

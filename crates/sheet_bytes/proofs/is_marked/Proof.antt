@@ -9,25 +9,25 @@ use Rattle.sheet_bytes.proofs.is_marked.Tie as tie
 returns : tie.Need-returns
 returns c = unmarked _ c.if1.true
 
-shared-slice-read-result : tie.Need-shared-slice-read-result
-shared-slice-read-result c = search rules
+shared_slice_read_result : tie.Need-shared-slice-read-result
+shared_slice_read_result c = search rules
 
-shared-slice-read-result-2 : tie.Need-shared-slice-read-result-2
-shared-slice-read-result-2 c = search rules
+shared_slice_read_result_2 : tie.Need-shared-slice-read-result-2
+shared_slice_read_result_2 c = search rules
 
-shared-slice-read-result-3 : tie.Need-shared-slice-read-result-3
-shared-slice-read-result-3 c = search rules
+shared_slice_read_result_3 : tie.Need-shared-slice-read-result-3
+shared_slice_read_result_3 c = search rules
 
-returns-2 : tie.Need-returns-2
+returns_2 : tie.Need-returns-2
 unfolding marked
-returns-2 c = refl
+returns_2 c = refl
 
-pub is-marked-spec : {M : Type 1} → statement M
-is-marked-spec =
+pub is_marked_spec : {M : Type 1} → statement M
+is_marked_spec =
     tie.close
     (tie.spec
     returns
-    shared-slice-read-result
-    shared-slice-read-result-2
-    shared-slice-read-result-3
-    returns-2)
+    shared_slice_read_result
+    shared_slice_read_result_2
+    shared_slice_read_result_3
+    returns_2)

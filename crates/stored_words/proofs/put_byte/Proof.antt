@@ -7,14 +7,14 @@ use lib.Seq.{set_out}
 use Rattle.stored_words.proofs.put_byte.Statement.{statement}
 use Rattle.stored_words.proofs.put_byte.Tie as tie
 
-sub-if2 : tie.Need-overflow-sub-if2
-sub-if2 c = search rules
+sub_if2 : tie.Need-overflow-sub-if2
+sub_if2 c = search rules
 
-add-place : tie.Need-overflow-add-place
-add-place c = search rules
+add_place : tie.Need-overflow-add-place
+add_place c = search rules
 
-slice-write-bytes : tie.Need-slice-write-bytes
-slice-write-bytes c = search rules
+slice_write_bytes : tie.Need-slice-write-bytes
+slice_write_bytes c = search rules
 
 same_length : tie.Need-same-length
 same_length c = search rules
@@ -22,17 +22,17 @@ same_length c = search rules
 returns : tie.Need-returns
 returns c = search rules
 
-returns-2 : tie.Need-returns-2
-returns-2 c =
+returns_2 : tie.Need-returns-2
+returns_2 c =
     let a = c.before.before.args in
     sym (set_out a.bytes.now (a.at + a.ahead) a.value (omega arith))
 
-returns-3 : tie.Need-returns-3
-returns-3 c =
+returns_3 : tie.Need-returns-3
+returns_3 c =
     let a = c.before.args in
     sym (set_out a.bytes.now (a.at + a.ahead) a.value (omega arith))
 
-pub put-byte-spec : {M : Type 1} → statement M
-put-byte-spec =
+pub put_byte_spec : {M : Type 1} → statement M
+put_byte_spec =
     tie.close
-    (tie.spec sub-if2 add-place slice-write-bytes same_length returns returns-2 returns-3)
+    (tie.spec sub_if2 add_place slice_write_bytes same_length returns returns_2 returns_3)

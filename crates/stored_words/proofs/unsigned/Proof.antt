@@ -6,7 +6,7 @@ use lib.IntN.{pos, negsuc, nat_abs, ◌-ℤ◌}
 use lib.Signed.{mag, non_neg, pos-nat_abs}
 use mir.Syntax.{w32}
 use mir.Val.{of_z, to_z, Fits}
-use Rattle.word_bytes.specs.Bytes.{unsignedWord}
+use Rattle.word_bytes.specs.Bytes.{unsigned_word}
 use Rattle.words.proofs.Signed.{read, castable}
 use Rattle.word_bytes.proofs.Turned.{fits, below, bits}
 use Rattle.stored_words.proofs.unsigned.Statement.{statement}
@@ -26,25 +26,25 @@ natural : (c : tie.Else1) → T (non_neg c.before.args.number) × Fits w32 (nat_
 natural c =
     castable c.before.args.number c.before.ranges.number.sfits (rw (held c.before) at c.if1.false)
 
-sub-below : tie.Need-overflow-sub-below
-sub-below c = rw (held c.before) (fits c.before.args.number c.before.ranges.number.sfits)
+sub_below : tie.Need-overflow-sub-below
+sub_below c = rw (held c.before) (fits c.before.args.number c.before.ranges.number.sfits)
 
-cast-below : tie.Need-overflow-cast-below
-cast-below c = rw (under c) (tt, omega arith)
+cast_below : tie.Need-overflow-cast-below
+cast_below c = rw (under c) (tt, omega arith)
 
-sub-result : tie.Need-overflow-sub-result
-sub-result c = rw (under c) (omega arith)
+sub_result : tie.Need-overflow-sub-result
+sub_result c = rw (under c) (omega arith)
 
 returns : tie.Need-returns
 returns c = rw (under c) (bits c.before.args.number (rw (held c.before) at c.if1.true))
 
-cast-result : tie.Need-overflow-cast-result
-cast-result c = rw (held c.before) (natural c)
+cast_result : tie.Need-overflow-cast-result
+cast_result c = rw (held c.before) (natural c)
 
-returns-2 : tie.Need-returns-2
-unfolding unsignedWord
-returns-2 c =
-    rw (held c.before) (ap unsignedWord (pos-nat_abs c.before.args.number (natural c).0))
+returns_2 : tie.Need-returns-2
+unfolding unsigned_word
+returns_2 c =
+    rw (held c.before) (ap unsigned_word (pos-nat_abs c.before.args.number (natural c).0))
 
-pub unsigned-spec : {M : Type 1} → statement M
-unsigned-spec = tie.close (tie.spec sub-below cast-below sub-result returns cast-result returns-2)
+pub unsigned_spec : {M : Type 1} → statement M
+unsigned_spec = tie.close (tie.spec sub_below cast_below sub_result returns cast_result returns_2)

@@ -5,52 +5,52 @@ use mathlib.Core.Path.{◌≡◌, sym, ◌∙◌, ap}
 use native.Mathlib.Omega.{arith}
 use lib.ListN.{length, take}
 use lib.Seq.{take_all}
-use Rattle.bounded.specs.Boolean.{neither-holds}
-use Rattle.tensor_sizes.specs.ByteSize.{hasNegative}
-use Rattle.tensor_sizes.specs.SizeLaws.{none-negative, negative-more, negative-seen}
+use Rattle.bounded.specs.Boolean.{neither_holds}
+use Rattle.tensor_sizes.specs.ByteSize.{has_negative}
+use Rattle.tensor_sizes.specs.SizeLaws.{none_negative, negative_more, negative_seen}
 use Rattle.tensor_sizes.proofs.has_negative.Statement.{statement}
 use Rattle.tensor_sizes.proofs.has_negative.Tie as tie
 
-abbrev invariant-loop : tie.invariant-loop
-invariant-loop shape at₀ at = (hasNegative (take at shape) ≡ false) × (at ≤ length shape)
+abbrev invariant_loop : tie.invariant_loop
+invariant_loop shape at₀ at = (has_negative (take at shape) ≡ false) × (at ≤ length shape)
 
-abbrev decreases-loop : tie.decreases-loop
-decreases-loop shape at₀ at = length shape - at
+abbrev decreases_loop : tie.decreases_loop
+decreases_loop shape at₀ at = length shape - at
 
-loop-holds : tie.Need-loop-init invariant-loop decreases-loop
-loop-holds c = (none-negative, omega arith)
+loop_holds : tie.Need-loop-init invariant_loop decreases_loop
+loop_holds c = (none_negative, omega arith)
 
-is-negative-requires : tie.Need-is-negative-requires invariant-loop decreases-loop
-is-negative-requires c κs = tt
+is_negative_requires : tie.Need-is-negative-requires invariant_loop decreases_loop
+is_negative_requires c κs = tt
 
-returns : tie.Need-returns invariant-loop decreases-loop
-returns c = sym (negative-seen _ _ c.before.before.loop-test.true (sym c.before.is_negative.ensures ∙ c.if1.true))
+returns : tie.Need-returns invariant_loop decreases_loop
+returns c = sym (negative_seen _ _ c.before.before.loop-test.true (sym c.before.is_negative.ensures ∙ c.if1.true))
 
-add_at : tie.Need-overflow-add-at invariant-loop decreases-loop
+add_at : tie.Need-overflow-add-at invariant_loop decreases_loop
 add_at c = omega arith
 
-loop-less : tie.Need-loop-smaller invariant-loop decreases-loop
-loop-less c = omega arith
+loop_less : tie.Need-loop-smaller invariant_loop decreases_loop
+loop_less c = omega arith
 
-loop-again : tie.Need-loop-preserved invariant-loop decreases-loop
-loop-again c =
+loop_again : tie.Need-loop-preserved invariant_loop decreases_loop
+loop_again c =
     let at = c.before.before.before in
     let l = c.before.before.loop-test.true in
-    (negative-more _ _ l ∙ neither-holds _ _ at.loop.invariant.0 (sym c.before.is_negative.ensures ∙ c.if1.false), omega arith)
+    (negative_more _ _ l ∙ neither_holds _ _ at.loop.invariant.0 (sym c.before.is_negative.ensures ∙ c.if1.false), omega arith)
 
-returns-2 : tie.Need-returns-2 invariant-loop decreases-loop
-returns-2 c = sym c.before.loop.invariant.0 ∙ ap hasNegative (take_all _ _ c.loop-test.false)
+returns_2 : tie.Need-returns-2 invariant_loop decreases_loop
+returns_2 c = sym c.before.loop.invariant.0 ∙ ap has_negative (take_all _ _ c.loop-test.false)
 
-pub has-negative-spec : {M : Type 1} → statement M
-has-negative-spec =
+pub has_negative_spec : {M : Type 1} → statement M
+has_negative_spec =
     tie.close
     (tie.spec
-    invariant-loop
-    decreases-loop
-    loop-holds
-    is-negative-requires
+    invariant_loop
+    decreases_loop
+    loop_holds
+    is_negative_requires
     returns
     add_at
-    loop-less
-    loop-again
-    returns-2)
+    loop_less
+    loop_again
+    returns_2)

@@ -8,8 +8,8 @@ use borrow.Author.Tests.{not-true, not-false}
 use lib.ListN.{length, take, length-append}
 use lib.Seq.{length-take-le}
 use Rattle.decimal_text.specs.Decimal.{decimal}
-use Rattle.decimal_text.specs.Decimals.{decimal-of, fewest-bounded}
-use Rattle.text_pieces.specs.Put.{Room, hasRoom, room_says, room-first, room_next, put_both, nothing_put, whole-put}
+use Rattle.decimal_text.specs.Decimals.{decimal_of, fewest_bounded}
+use Rattle.text_pieces.specs.Put.{Room, has_room, room_says, room_first, room_next, put_both, nothing_put, whole_put}
 use Rattle.text_pieces.proofs.put_number.Statement.{statement}
 use Rattle.text_pieces.proofs.put_number.Tie as tie
 
@@ -18,7 +18,7 @@ start c = c.before.before.before.before
 
 -- the digits are the number's text
 made : (c : tie.After-decimal) → take c.decimal.result c.decimal.new.1.0 ≡ decimal (start c).args.number
-made c = c.decimal.ensures.1.1 ∙ decimal-of _ c.decimal.result (omega arith) c.decimal.ensures.1.0
+made c = c.decimal.ensures.1.1 ∙ decimal_of _ c.decimal.result (omega arith) c.decimal.ensures.1.0
 
 -- the bytes and the text together
 abbrev piece : tie.After-decimal → List ℕ
@@ -33,34 +33,34 @@ roomy : (c : tie.Else1) → let d = c.before.before in Room (start d).args.text.
 roomy c =
     let d = c.before.before in
     room_says _ _ _
-    (ap (hasRoom (length (start d).args.text.now) (start d).args.at) (sym (long d)) ∙ sym c.before.has_room.ensures ∙ not-false _ c.if1.false)
+    (ap (has_room (length (start d).args.text.now) (start d).args.at) (sym (long d)) ∙ sym c.before.has_room.ensures ∙ not-false _ c.if1.false)
 
-decimal-requires : tie.Need-decimal-requires
-decimal-requires c κs = search rules
+decimal_requires : tie.Need-decimal-requires
+decimal_requires c κs = search rules
 
-add-has-room : tie.Need-overflow-add-has-room
-add-has-room c = omega (arith, (start c).well-formed.1.1.0.1, fewest-bounded _ c.decimal.result (omega arith) c.decimal.ensures.1.0)
+add_has_room : tie.Need-overflow-add-has-room
+add_has_room c = omega (arith, (start c).well-formed.1.1.0.1, fewest_bounded _ c.decimal.result (omega arith) c.decimal.ensures.1.0)
 
-has-room-requires : tie.Need-has-room-requires
-has-room-requires c κs = search rules
+has_room_requires : tie.Need-has-room-requires
+has_room_requires c κs = search rules
 
 returns : tie.Need-returns
 returns c =
     let d = c.before.before in
     nothing_put _ _ _
-    (ap (hasRoom (length (start d).args.text.now) (start d).args.at) (sym (long d)) ∙ sym c.before.has_room.ensures ∙ not-true _ c.if1.true)
+    (ap (has_room (length (start d).args.text.now) (start d).args.at) (sym (long d)) ∙ sym c.before.has_room.ensures ∙ not-true _ c.if1.true)
 
-put-whole-requires : tie.Need-put-whole-requires
-put-whole-requires c κs = room-first _ (decimal _) (roomy c.before)
+put_whole_requires : tie.Need-put-whole-requires
+put_whole_requires c κs = room_first _ (decimal _) (roomy c.before)
 
-array-share-prefix-digits : tie.Need-array-share-prefix-digits
-array-share-prefix-digits c = search rules
+array_share_prefix_digits : tie.Need-array-share-prefix-digits
+array_share_prefix_digits c = search rules
 
-slice-aggregate-put-whole : tie.Need-slice-aggregate-put-whole
-slice-aggregate-put-whole c = search rules
+slice_aggregate_put_whole : tie.Need-slice-aggregate-put-whole
+slice_aggregate_put_whole c = search rules
 
-put-whole-requires-2 : tie.Need-put-whole-requires-2
-put-whole-requires-2 c κs =
+put_whole_requires_2 : tie.Need-put-whole-requires-2
+put_whole_requires_2 c κs =
     let first = c.before.before.before.before in
     let one = first.before.before in
     rw (made one.before.before) (room_next _ first.put_whole.ensures (roomy one))
@@ -68,23 +68,23 @@ put-whole-requires-2 c κs =
 same_length : tie.Need-same-length
 same_length c = search rules
 
-returns-2 : tie.Need-returns-2
-returns-2 c =
+returns_2 : tie.Need-returns-2
+returns_2 c =
     let second = c.before.before in
     let first = second.before.before.before.before.before in
-    whole-put (put_both first.put_whole.ensures (rw (made first.before.before.before.before) at second.put-whole2.ensures))
+    whole_put (put_both first.put_whole.ensures (rw (made first.before.before.before.before) at second.put-whole2.ensures))
 
-pub put-number-spec : {M : Type 1} → statement M
-put-number-spec =
+pub put_number_spec : {M : Type 1} → statement M
+put_number_spec =
     tie.close
     (tie.spec
-    decimal-requires
-    add-has-room
-    has-room-requires
+    decimal_requires
+    add_has_room
+    has_room_requires
     returns
-    put-whole-requires
-    array-share-prefix-digits
-    slice-aggregate-put-whole
-    put-whole-requires-2
+    put_whole_requires
+    array_share_prefix_digits
+    slice_aggregate_put_whole
+    put_whole_requires_2
     same_length
-    returns-2)
+    returns_2)

@@ -3,61 +3,61 @@ use Prim.Native.Nat.{◌+◌, ◌-◌, ◌≤◌}
 use native.Mathlib.Nat.{add-zero}
 use native.Mathlib.Omega.{arith}
 use lib.ListN.{length, take}
-use Rattle.text_pieces.specs.Put.{Put, put-none, put-more, put_all, put-length}
+use Rattle.text_pieces.specs.Put.{Put, put_none, put_more, put_all, put_length}
 use Rattle.text_pieces.proofs.put_whole.Statement.{statement}
 use Rattle.text_pieces.proofs.put_whole.Tie as tie
 
-abbrev invariant-loop : tie.invariant-loop
-invariant-loop text₀ at piece count₀ text count = Put text₀ text at (at + count) (take count piece) × (count ≤ length piece)
+abbrev invariant_loop : tie.invariant_loop
+invariant_loop text₀ at piece count₀ text count = Put text₀ text at (at + count) (take count piece) × (count ≤ length piece)
 
-abbrev decreases-loop : tie.decreases-loop
-decreases-loop text₀ at piece count₀ text count = length piece - count
+abbrev decreases_loop : tie.decreases_loop
+decreases_loop text₀ at piece count₀ text count = length piece - count
 
-loop-holds : tie.Need-loop-init invariant-loop decreases-loop
-loop-holds c = (rw add-zero (put-none _ _ (omega (arith, c.requires.holds))), omega arith)
+loop_holds : tie.Need-loop-init invariant_loop decreases_loop
+loop_holds c = (rw add-zero (put_none _ _ (omega (arith, c.requires.holds))), omega arith)
 
-add-place : tie.Need-overflow-add-place invariant-loop decreases-loop
-add-place c = omega (arith, c.before.before.requires.holds)
+add_place : tie.Need-overflow-add-place invariant_loop decreases_loop
+add_place c = omega (arith, c.before.before.requires.holds)
 
-shared-slice-read-text : tie.Need-shared-slice-read-text invariant-loop decreases-loop
-shared-slice-read-text c = omega arith
+shared_slice_read_text : tie.Need-shared-slice-read-text invariant_loop decreases_loop
+shared_slice_read_text c = omega arith
 
-slice-write-text : tie.Need-slice-write-text invariant-loop decreases-loop
-slice-write-text c = omega (arith, put-length c.before.before.loop.invariant.0, c.before.before.before.requires.holds)
+slice_write_text : tie.Need-slice-write-text invariant_loop decreases_loop
+slice_write_text c = omega (arith, put_length c.before.before.loop.invariant.0, c.before.before.before.requires.holds)
 
-add-count : tie.Need-overflow-add-count invariant-loop decreases-loop
-add-count c = omega arith
+add_count : tie.Need-overflow-add-count invariant_loop decreases_loop
+add_count c = omega arith
 
-loop-less : tie.Need-loop-smaller invariant-loop decreases-loop
-loop-less c = omega arith
+loop_less : tie.Need-loop-smaller invariant_loop decreases_loop
+loop_less c = omega arith
 
-loop-again : tie.Need-loop-preserved invariant-loop decreases-loop
-loop-again c =
+loop_again : tie.Need-loop-preserved invariant_loop decreases_loop
+loop_again c =
     let a = c.before.before.before.args in
-    (put-more a.piece.now a.at c.before.before.loop.count (omega arith) (omega (arith, c.before.before.before.requires.holds)) c.before.before.loop.invariant.0, omega arith)
+    (put_more a.piece.now a.at c.before.before.loop.count (omega arith) (omega (arith, c.before.before.before.requires.holds)) c.before.before.loop.invariant.0, omega arith)
 
-add-result : tie.Need-overflow-add-result invariant-loop decreases-loop
-add-result c = omega (arith, c.before.before.requires.holds)
+add_result : tie.Need-overflow-add-result invariant_loop decreases_loop
+add_result c = omega (arith, c.before.before.requires.holds)
 
-same_length : tie.Need-same-length invariant-loop decreases-loop
-same_length c = put-length c.before.loop.invariant.0
+same_length : tie.Need-same-length invariant_loop decreases_loop
+same_length c = put_length c.before.loop.invariant.0
 
-returns : tie.Need-returns invariant-loop decreases-loop
+returns : tie.Need-returns invariant_loop decreases_loop
 returns c = put_all _ c.before.loop.count (omega arith) c.before.loop.invariant.0
 
-pub put-whole-spec : {M : Type 1} → statement M
-put-whole-spec =
+pub put_whole_spec : {M : Type 1} → statement M
+put_whole_spec =
     tie.close
     (tie.spec
-    invariant-loop
-    decreases-loop
-    loop-holds
-    add-place
-    shared-slice-read-text
-    slice-write-text
-    add-count
-    loop-less
-    loop-again
-    add-result
+    invariant_loop
+    decreases_loop
+    loop_holds
+    add_place
+    shared_slice_read_text
+    slice_write_text
+    add_count
+    loop_less
+    loop_again
+    add_result
     same_length
     returns)

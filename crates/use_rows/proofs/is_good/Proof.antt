@@ -8,5 +8,5 @@ returns : tie.Need-returns
 unfolding good
 returns c = refl
 
-pub is-good-spec : {M : Type 1} → statement M
-is-good-spec = tie.close (tie.spec returns)
+pub is_good_spec : {M : Type 1} → statement M
+is_good_spec = tie.close (tie.spec returns)

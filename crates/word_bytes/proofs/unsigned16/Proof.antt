@@ -1,33 +1,33 @@
 -- `word_bytes::unsigned16` meets its contract: its bytes stand 0 and 1 ahead of the place, as in the definition.
 use borrow.Author.Rules.{rules}
 use native.Mathlib.Nat.{add-zero}
-use Rattle.word_bytes.specs.Bytes.{littleEndian}
+use Rattle.word_bytes.specs.Bytes.{little_endian}
 use Rattle.word_bytes.proofs.unsigned16.Statement.{statement}
 use Rattle.word_bytes.proofs.unsigned16.Tie as tie
 
-byte-requires : tie.Need-byte-requires
-byte-requires c κs = search rules
+byte_requires : tie.Need-byte-requires
+byte_requires c κs = search rules
 
-cast-low : tie.Need-overflow-cast-low
-cast-low c = search rules
+cast_low : tie.Need-overflow-cast-low
+cast_low c = search rules
 
-byte-requires-2 : tie.Need-byte-requires-2
-byte-requires-2 c κs = search rules
+byte_requires_2 : tie.Need-byte-requires-2
+byte_requires_2 c κs = search rules
 
-cast-high : tie.Need-overflow-cast-high
-cast-high c = search rules
+cast_high : tie.Need-overflow-cast-high
+cast_high c = search rules
 
-mul-result : tie.Need-overflow-mul-result
-mul-result c = search rules
+mul_result : tie.Need-overflow-mul-result
+mul_result c = search rules
 
-add-result : tie.Need-overflow-add-result
-add-result c = search rules
+add_result : tie.Need-overflow-add-result
+add_result c = search rules
 
 returns : tie.Need-returns
-unfolding littleEndian
+unfolding little_endian
 returns c = rw (c.before.byte.ensures, c.byte2.ensures) (simp add-zero)
 
-pub unsigned16-spec : {M : Type 1} → statement M
-unsigned16-spec =
+pub unsigned16_spec : {M : Type 1} → statement M
+unsigned16_spec =
     tie.close
-    (tie.spec byte-requires cast-low byte-requires-2 cast-high mul-result add-result returns)
+    (tie.spec byte_requires cast_low byte_requires_2 cast_high mul_result add_result returns)

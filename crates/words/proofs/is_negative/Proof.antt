@@ -10,14 +10,14 @@ use Rattle.words.proofs.is_negative.Tie as tie
 returns : tie.Need-returns
 returns c = sym (ap (λ (x : ℤ). lt_z x (pos 0)) (get_or-eq_default c.before.args.table.now (pos 0) c.if1.true))
 
-mul-word : tie.Need-overflow-mul-word
-mul-word c = search rules
+mul_word : tie.Need-overflow-mul-word
+mul_word c = search rules
 
-shared-slice-copy-out-word : tie.Need-shared-slice-copy-out-word
-shared-slice-copy-out-word c = search rules
+shared_slice_copy_out_word : tie.Need-shared-slice-copy-out-word
+shared_slice_copy_out_word c = search rules
 
-returns-2 : tie.Need-returns-2
-returns-2 c = search rules
+returns_2 : tie.Need-returns-2
+returns_2 c = search rules
 
-pub is-negative-spec : {M : Type 1} → statement M
-is-negative-spec = tie.close (tie.spec returns mul-word shared-slice-copy-out-word returns-2)
+pub is_negative_spec : {M : Type 1} → statement M
+is_negative_spec = tie.close (tie.spec returns mul_word shared_slice_copy_out_word returns_2)

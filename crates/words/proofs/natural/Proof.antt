@@ -8,34 +8,34 @@ use borrow.Author.Rules.{rules}
 use Rattle.words.proofs.natural.Statement.{statement}
 use Rattle.words.proofs.natural.Tie as tie
 
-mul-word : tie.Need-overflow-mul-word
-mul-word c = search rules
+mul_word : tie.Need-overflow-mul-word
+mul_word c = search rules
 
-shared-slice-copy-out-word : tie.Need-shared-slice-copy-out-word
-shared-slice-copy-out-word c = search rules
+shared_slice_copy_out_word : tie.Need-shared-slice-copy-out-word
+shared_slice_copy_out_word c = search rules
 
 returns : tie.Need-returns
 returns c =
     let x = word_at c.before.before.before.args.table.now c.before.before.before.args.at in
     negative x (rw (read x c.before.word.given) at c.if2.true)
 
-cast-result : tie.Need-overflow-cast-result
-cast-result c =
+cast_result : tie.Need-overflow-cast-result
+cast_result c =
     let x = word_at c.before.before.before.args.table.now c.before.before.before.args.at in
     let back = read x c.before.word.given in
     rw back (castable x c.before.word.given (rw back at c.if2.false))
 
-returns-2 : tie.Need-returns-2
-returns-2 c =
+returns_2 : tie.Need-returns-2
+returns_2 c =
     let x = word_at c.before.before.before.args.table.now c.before.before.before.args.at in
     let back = read x c.before.word.given in
     rw back (itself x (rw back at c.if2.false))
 
-returns-3 : tie.Need-returns-3
+returns_3 : tie.Need-returns-3
 unfolding natural
-returns-3 c = sym (ap natural (get_or-eq_default c.before.args.table.now (pos 0) c.if1.false))
+returns_3 c = sym (ap natural (get_or-eq_default c.before.args.table.now (pos 0) c.if1.false))
 
-pub natural-spec : {M : Type 1} → statement M
-natural-spec =
+pub natural_spec : {M : Type 1} → statement M
+natural_spec =
     tie.close
-    (tie.spec mul-word shared-slice-copy-out-word returns cast-result returns-2 returns-3)
+    (tie.spec mul_word shared_slice_copy_out_word returns cast_result returns_2 returns_3)

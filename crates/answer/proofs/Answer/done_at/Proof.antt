@@ -5,11 +5,11 @@ use borrow.Author.Rules.{rules}
 use Rattle.answer.proofs.Answer.done_at.Statement.{statement}
 use Rattle.answer.proofs.Answer.done_at.Tie as tie
 
-done-requires : tie.Need-done-requires
-done-requires c κs = search rules
+done_requires : tie.Need-done-requires
+done_requires c κs = search rules
 
 returns : tie.Need-returns
 returns c = ap (λ (x : Answer). record { number = x.number; a = c.before.args.start; b = x.b; need = x.need }) c.done.ensures
 
-pub done-at-spec : {M : Type 1} → statement M
-done-at-spec = tie.close (tie.spec done-requires returns)
+pub done_at_spec : {M : Type 1} → statement M
+done_at_spec = tie.close (tie.spec done_requires returns)

@@ -5,11 +5,11 @@ use borrow.Author.Rules.{rules}
 use Rattle.answer.proofs.Answer.refused_at.Statement.{statement}
 use Rattle.answer.proofs.Answer.refused_at.Tie as tie
 
-refused-requires : tie.Need-refused-requires
-refused-requires c κs = search rules
+refused_requires : tie.Need-refused-requires
+refused_requires c κs = search rules
 
 returns : tie.Need-returns
 returns c = ap (λ (x : Answer). record { number = x.number; a = c.before.args.a; b = x.b; need = x.need }) c.refused.ensures
 
-pub refused-at-spec : {M : Type 1} → statement M
-refused-at-spec = tie.close (tie.spec refused-requires returns)
+pub refused_at_spec : {M : Type 1} → statement M
+refused_at_spec = tie.close (tie.spec refused_requires returns)

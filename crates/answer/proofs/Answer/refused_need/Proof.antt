@@ -5,11 +5,11 @@ use borrow.Author.Rules.{rules}
 use Rattle.answer.proofs.Answer.refused_need.Statement.{statement}
 use Rattle.answer.proofs.Answer.refused_need.Tie as tie
 
-refused-requires : tie.Need-refused-requires
-refused-requires c κs = search rules
+refused_requires : tie.Need-refused-requires
+refused_requires c κs = search rules
 
 returns : tie.Need-returns
 returns c = ap (λ (x : Answer). record { number = x.number; a = x.a; b = x.b; need = c.before.args.need }) c.refused.ensures
 
-pub refused-need-spec : {M : Type 1} → statement M
-refused-need-spec = tie.close (tie.spec refused-requires returns)
+pub refused_need_spec : {M : Type 1} → statement M
+refused_need_spec = tie.close (tie.spec refused_requires returns)

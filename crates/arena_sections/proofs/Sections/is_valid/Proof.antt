@@ -8,5 +8,5 @@ returns : tie.Need-returns
 unfolding valid
 returns c = refl
 
-pub is-valid-spec : {M : Type 1} → statement M
-is-valid-spec = tie.close (tie.spec returns)
+pub is_valid_spec : {M : Type 1} → statement M
+is_valid_spec = tie.close (tie.spec returns)

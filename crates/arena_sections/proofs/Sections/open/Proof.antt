@@ -3,71 +3,71 @@ use Prim.Native.Nat.{ℕ, ◌-◌}
 use mathlib.Core.Path.{◌∙◌, ap}
 use native.Mathlib.Omega.{arith}
 use borrow.Author.Rules.{rules}
-use Rattle.answer.specs.Answer.{sectionsNotValid}
-use Rattle.arena_sections.specs.Cases.{open-short, open-long, open_done}
-use Rattle.arena_sections.specs.Sections.{fresh, refusedOutcome, doneOutcome}
+use Rattle.answer.specs.Answer.{sections_not_valid}
+use Rattle.arena_sections.specs.Cases.{open_short, open_long, open_done}
+use Rattle.arena_sections.specs.Sections.{fresh, refused_outcome, done_outcome}
 use Rattle.arena_sections.proofs.Sections.open.Statement.{statement}
 use Rattle.arena_sections.proofs.Sections.open.Tie as tie
 
-bytes-lost-requires : tie.Need-bytes-lost-requires
-bytes-lost-requires c κs = search rules
+bytes_lost_requires : tie.Need-bytes-lost-requires
+bytes_lost_requires c κs = search rules
 
-cast-lost : tie.Need-overflow-cast-lost
-cast-lost c = search rules
+cast_lost : tie.Need-overflow-cast-lost
+cast_lost c = search rules
 
-fresh-requires : tie.Need-fresh-requires
-fresh-requires c κs = search rules
+fresh_requires : tie.Need-fresh-requires
+fresh_requires c κs = search rules
 
-refused-requires : tie.Need-refused-requires
-refused-requires c κs = search rules
+refused_requires : tie.Need-refused-requires
+refused_requires c κs = search rules
 
 returns : tie.Need-returns
 returns c =
     let u = c.before.before in
-    c.refused.ensures ∙ ap (refusedOutcome sectionsNotValid) u.fresh.ensures ∙ open-short _ _ _ (omega (arith, u.before.bytes-lost.ensures))
+    c.refused.ensures ∙ ap (refused_outcome sections_not_valid) u.fresh.ensures ∙ open_short _ _ _ (omega (arith, u.before.bytes-lost.ensures))
 
-cast-if2 : tie.Need-overflow-cast-if2
-cast-if2 c = search rules
+cast_if2 : tie.Need-overflow-cast-if2
+cast_if2 c = search rules
 
-refused-requires-2 : tie.Need-refused-requires-2
-refused-requires-2 c κs = search rules
+refused_requires_2 : tie.Need-refused-requires-2
+refused_requires_2 c κs = search rules
 
-returns-2 : tie.Need-returns-2
-returns-2 c =
+returns_2 : tie.Need-returns-2
+returns_2 c =
     let u = c.before.before.before in
     let lost = u.before.bytes-lost.ensures in
-    c.refused2.ensures ∙ ap (refusedOutcome sectionsNotValid) u.fresh.ensures ∙ open-long _ _ _ (omega (arith, lost))
+    c.refused2.ensures ∙ ap (refused_outcome sections_not_valid) u.fresh.ensures ∙ open_long _ _ _ (omega (arith, lost))
 
-cast-fresh : tie.Need-overflow-cast-fresh
-cast-fresh c = search rules
+cast_fresh : tie.Need-overflow-cast-fresh
+cast_fresh c = search rules
 
-fresh-requires-2 : tie.Need-fresh-requires-2
-fresh-requires-2 c κs = search rules
+fresh_requires_2 : tie.Need-fresh-requires-2
+fresh_requires_2 c κs = search rules
 
-done-requires : tie.Need-done-requires
-done-requires c κs = search rules
+done_requires : tie.Need-done-requires
+done_requires c κs = search rules
 
-returns-3 : tie.Need-returns-3
-returns-3 c =
+returns_3 : tie.Need-returns-3
+returns_3 c =
     let u = c.before.before.before.before.before in
     let lost = u.bytes-lost.ensures in
     c.done.ensures
-    ∙ ap (doneOutcome 0) (c.before.fresh2.ensures ∙ ap (λ (n : ℕ). fresh (u.before.args.length - n)) lost)
+    ∙ ap (done_outcome 0) (c.before.fresh2.ensures ∙ ap (λ (n : ℕ). fresh (u.before.args.length - n)) lost)
     ∙ open_done _ _ _ (omega (arith, lost)) (omega (arith, lost))
 
 pub open_spec : {M : Type 1} → statement M
 open_spec =
     tie.close
     (tie.spec
-    bytes-lost-requires
-    cast-lost
-    fresh-requires
-    refused-requires
+    bytes_lost_requires
+    cast_lost
+    fresh_requires
+    refused_requires
     returns
-    cast-if2
-    refused-requires-2
-    returns-2
-    cast-fresh
-    fresh-requires-2
-    done-requires
-    returns-3)
+    cast_if2
+    refused_requires_2
+    returns_2
+    cast_fresh
+    fresh_requires_2
+    done_requires
+    returns_3)

@@ -6,59 +6,59 @@ use lib.ListN.{length}
 use Rattle.bench_vectors.proofs.functions.fits.Statement.{statement}
 use Rattle.bench_vectors.proofs.functions.fits.Tie as tie
 
-abbrev invariant-loop : tie.invariant-loop
-invariant-loop body kinds field₀ field = field ≤ length kinds
+abbrev invariant_loop : tie.invariant_loop
+invariant_loop body kinds field₀ field = field ≤ length kinds
 
-abbrev decreases-loop : tie.decreases-loop
-decreases-loop body kinds field₀ field = length kinds - field
+abbrev decreases_loop : tie.decreases_loop
+decreases_loop body kinds field₀ field = length kinds - field
 
-loop-holds : tie.Need-loop-init invariant-loop decreases-loop
-loop-holds c = omega arith
+loop_holds : tie.Need-loop-init invariant_loop decreases_loop
+loop_holds c = omega arith
 
-part-requires : tie.Need-part-requires invariant-loop decreases-loop
-part-requires c κs = tt
+part_requires : tie.Need-part-requires invariant_loop decreases_loop
+part_requires c κs = tt
 
-shared-slice-read-field-fits : tie.Need-shared-slice-read-field-fits invariant-loop decreases-loop
-shared-slice-read-field-fits c = omega arith
+shared_slice_read_field_fits : tie.Need-shared-slice-read-field-fits invariant_loop decreases_loop
+shared_slice_read_field_fits c = omega arith
 
-field-fits-requires : tie.Need-field-fits-requires invariant-loop decreases-loop
-field-fits-requires c κs = tt
+field_fits_requires : tie.Need-field-fits-requires invariant_loop decreases_loop
+field_fits_requires c κs = tt
 
-returns : tie.Need-returns invariant-loop decreases-loop
+returns : tie.Need-returns invariant_loop decreases_loop
 returns c = tt
 
-add-field : tie.Need-overflow-add-field invariant-loop decreases-loop
-add-field c = omega arith
+add_field : tie.Need-overflow-add-field invariant_loop decreases_loop
+add_field c = omega arith
 
-loop-less : tie.Need-loop-smaller invariant-loop decreases-loop
-loop-less c = omega arith
+loop_less : tie.Need-loop-smaller invariant_loop decreases_loop
+loop_less c = omega arith
 
-loop-again : tie.Need-loop-preserved invariant-loop decreases-loop
-loop-again c = omega arith
+loop_again : tie.Need-loop-preserved invariant_loop decreases_loop
+loop_again c = omega arith
 
-last-requires : tie.Need-last-requires invariant-loop decreases-loop
-last-requires c κs = tt
+last_requires : tie.Need-last-requires invariant_loop decreases_loop
+last_requires c κs = tt
 
-add-result : tie.Need-overflow-add-result invariant-loop decreases-loop
-add-result c = search rules
+add_result : tie.Need-overflow-add-result invariant_loop decreases_loop
+add_result c = search rules
 
-returns-2 : tie.Need-returns-2 invariant-loop decreases-loop
-returns-2 c = tt
+returns_2 : tie.Need-returns-2 invariant_loop decreases_loop
+returns_2 c = tt
 
-pub fits-spec : {M : Type 1} → statement M
-fits-spec =
+pub fits_spec : {M : Type 1} → statement M
+fits_spec =
     tie.close
     (tie.spec
-    invariant-loop
-    decreases-loop
-    loop-holds
-    part-requires
-    shared-slice-read-field-fits
-    field-fits-requires
+    invariant_loop
+    decreases_loop
+    loop_holds
+    part_requires
+    shared_slice_read_field_fits
+    field_fits_requires
     returns
-    add-field
-    loop-less
-    loop-again
-    last-requires
-    add-result
-    returns-2)
+    add_field
+    loop_less
+    loop_again
+    last_requires
+    add_result
+    returns_2)

@@ -4,47 +4,47 @@ use native.Mathlib.Omega.{arith}
 use Rattle.bench_vectors.proofs.functions.row_of.Statement.{statement}
 use Rattle.bench_vectors.proofs.functions.row_of.Tie as tie
 
-abbrev invariant-loop : tie.invariant-loop
-invariant-loop line rows row₀ row = Unit {0}
+abbrev invariant_loop : tie.invariant_loop
+invariant_loop line rows row₀ row = Unit {0}
 
-abbrev decreases-loop : tie.decreases-loop
-decreases-loop line rows row₀ row = 14 - row
+abbrev decreases_loop : tie.decreases_loop
+decreases_loop line rows row₀ row = 14 - row
 
-loop-holds : tie.Need-loop-init invariant-loop decreases-loop
-loop-holds c = tt
+loop_holds : tie.Need-loop-init invariant_loop decreases_loop
+loop_holds c = tt
 
-part-requires : tie.Need-part-requires invariant-loop decreases-loop
-part-requires c κs = tt
+part_requires : tie.Need-part-requires invariant_loop decreases_loop
+part_requires c κs = tt
 
-is-vector-requires : tie.Need-is-vector-requires invariant-loop decreases-loop
-is-vector-requires c κs = tt
+is_vector_requires : tie.Need-is-vector-requires invariant_loop decreases_loop
+is_vector_requires c κs = tt
 
-returns : tie.Need-returns invariant-loop decreases-loop
+returns : tie.Need-returns invariant_loop decreases_loop
 returns c = tt
 
-add_row : tie.Need-overflow-add-row invariant-loop decreases-loop
+add_row : tie.Need-overflow-add-row invariant_loop decreases_loop
 add_row c = omega arith
 
-loop-less : tie.Need-loop-smaller invariant-loop decreases-loop
-loop-less c = omega arith
+loop_less : tie.Need-loop-smaller invariant_loop decreases_loop
+loop_less c = omega arith
 
-loop-again : tie.Need-loop-preserved invariant-loop decreases-loop
-loop-again c = tt
+loop_again : tie.Need-loop-preserved invariant_loop decreases_loop
+loop_again c = tt
 
-returns-2 : tie.Need-returns-2 invariant-loop decreases-loop
-returns-2 c = tt
+returns_2 : tie.Need-returns-2 invariant_loop decreases_loop
+returns_2 c = tt
 
-pub row-of-spec : {M : Type 1} → statement M
-row-of-spec =
+pub row_of_spec : {M : Type 1} → statement M
+row_of_spec =
     tie.close
     (tie.spec
-    invariant-loop
-    decreases-loop
-    loop-holds
-    part-requires
-    is-vector-requires
+    invariant_loop
+    decreases_loop
+    loop_holds
+    part_requires
+    is_vector_requires
     returns
     add_row
-    loop-less
-    loop-again
-    returns-2)
+    loop_less
+    loop_again
+    returns_2)

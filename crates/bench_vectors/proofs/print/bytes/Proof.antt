@@ -8,67 +8,67 @@ use lib.Seq.{length-take-le}
 use Rattle.bench_vectors.proofs.print.bytes.Statement.{statement}
 use Rattle.bench_vectors.proofs.print.bytes.Tie as tie
 
-abbrev invariant-loop : tie.invariant-loop
-invariant-loop heading table wide₀ at₀ wide at = (at ≤ 66000) × (length wide ≡ 66000)
+abbrev invariant_loop : tie.invariant_loop
+invariant_loop heading table wide₀ at₀ wide at = (at ≤ 66000) × (length wide ≡ 66000)
 
-abbrev decreases-loop : tie.decreases-loop
-decreases-loop heading table wide₀ at₀ wide at = length table - at
+abbrev decreases_loop : tie.decreases_loop
+decreases_loop heading table wide₀ at₀ wide at = length table - at
 
-words-of-requires : tie.Need-words-of-requires invariant-loop decreases-loop
-words-of-requires c κs = tt
+words_of_requires : tie.Need-words-of-requires invariant_loop decreases_loop
+words_of_requires c κs = tt
 
-loop-holds : tie.Need-loop-init invariant-loop decreases-loop
-loop-holds c = omega arith
+loop_holds : tie.Need-loop-init invariant_loop decreases_loop
+loop_holds c = omega arith
 
-shared-slice-read-wide : tie.Need-shared-slice-read-wide invariant-loop decreases-loop
-shared-slice-read-wide c = omega arith
+shared_slice_read_wide : tie.Need-shared-slice-read-wide invariant_loop decreases_loop
+shared_slice_read_wide c = omega arith
 
-cast-wide : tie.Need-overflow-cast-wide invariant-loop decreases-loop
-cast-wide c = sfits_of (omega (arith, c.shared-slice-known3.given c.before.before.before.loop.at))
+cast_wide : tie.Need-overflow-cast-wide invariant_loop decreases_loop
+cast_wide c = sfits_of (omega (arith, c.shared-slice-known3.given c.before.before.before.loop.at))
 
-mul_wide : tie.Need-overflow-mul-wide invariant-loop decreases-loop
+mul_wide : tie.Need-overflow-mul-wide invariant_loop decreases_loop
 mul_wide c = omega arith
 
-array-set-from-wide : tie.Need-array-set-from-wide invariant-loop decreases-loop
-array-set-from-wide c = omega arith
+array_set_from_wide : tie.Need-array-set-from-wide invariant_loop decreases_loop
+array_set_from_wide c = omega arith
 
-add_at : tie.Need-overflow-add-at invariant-loop decreases-loop
+add_at : tie.Need-overflow-add-at invariant_loop decreases_loop
 add_at c = omega arith
 
-loop-less : tie.Need-loop-smaller invariant-loop decreases-loop
-loop-less c = omega arith
+loop_less : tie.Need-loop-smaller invariant_loop decreases_loop
+loop_less c = omega arith
 
-loop-again : tie.Need-loop-preserved invariant-loop decreases-loop
-loop-again c = search rules
+loop_again : tie.Need-loop-preserved invariant_loop decreases_loop
+loop_again c = search rules
 
-array-share-prefix-wide : tie.Need-array-share-prefix-wide invariant-loop decreases-loop
-array-share-prefix-wide c = omega arith
+array_share_prefix_wide : tie.Need-array-share-prefix-wide invariant_loop decreases_loop
+array_share_prefix_wide c = omega arith
 
-slice-aggregate-words : tie.Need-slice-aggregate-words invariant-loop decreases-loop
-slice-aggregate-words c = sym (length-take-le _ _ (array-share-prefix-wide c.before))
+slice_aggregate_words : tie.Need-slice-aggregate-words invariant_loop decreases_loop
+slice_aggregate_words c = sym (length-take-le _ _ (array_share_prefix_wide c.before))
 
-words-requires : tie.Need-words-requires invariant-loop decreases-loop
-words-requires c κs = tt
+words_requires : tie.Need-words-requires invariant_loop decreases_loop
+words_requires c κs = tt
 
-returns : tie.Need-returns invariant-loop decreases-loop
+returns : tie.Need-returns invariant_loop decreases_loop
 returns c = tt
 
-pub bytes-spec : {M : Type 1} → statement M
-bytes-spec =
+pub bytes_spec : {M : Type 1} → statement M
+bytes_spec =
     tie.close
     (tie.spec
-    invariant-loop
-    decreases-loop
-    words-of-requires
-    loop-holds
-    shared-slice-read-wide
-    cast-wide
+    invariant_loop
+    decreases_loop
+    words_of_requires
+    loop_holds
+    shared_slice_read_wide
+    cast_wide
     mul_wide
-    array-set-from-wide
+    array_set_from_wide
     add_at
-    loop-less
-    loop-again
-    array-share-prefix-wide
-    slice-aggregate-words
-    words-requires
+    loop_less
+    loop_again
+    array_share_prefix_wide
+    slice_aggregate_words
+    words_requires
     returns)

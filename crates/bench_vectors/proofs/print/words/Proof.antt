@@ -5,63 +5,63 @@ use lib.ListN.{length}
 use Rattle.bench_vectors.proofs.print.words.Statement.{statement}
 use Rattle.bench_vectors.proofs.print.words.Tie as tie
 
-abbrev invariant-loop : tie.invariant-loop
-invariant-loop heading table count₀ at₀ count at = count ≤ at
+abbrev invariant_loop : tie.invariant_loop
+invariant_loop heading table count₀ at₀ count at = count ≤ at
 
-abbrev decreases-loop : tie.decreases-loop
-decreases-loop heading table count₀ at₀ count at = length table - at
+abbrev decreases_loop : tie.decreases_loop
+decreases_loop heading table count₀ at₀ count at = length table - at
 
-text-requires : tie.Need-text-requires invariant-loop decreases-loop
-text-requires c κs = tt
+text_requires : tie.Need-text-requires invariant_loop decreases_loop
+text_requires c κs = tt
 
-loop-holds : tie.Need-loop-init invariant-loop decreases-loop
-loop-holds c = omega arith
+loop_holds : tie.Need-loop-init invariant_loop decreases_loop
+loop_holds c = omega arith
 
-bits-requires : tie.Need-bits-requires invariant-loop decreases-loop
-bits-requires c κs = tt
+bits_requires : tie.Need-bits-requires invariant_loop decreases_loop
+bits_requires c κs = tt
 
-add-count : tie.Need-overflow-add-count invariant-loop decreases-loop
-add-count c = omega arith
+add_count : tie.Need-overflow-add-count invariant_loop decreases_loop
+add_count c = omega arith
 
-add_at : tie.Need-overflow-add-at invariant-loop decreases-loop
+add_at : tie.Need-overflow-add-at invariant_loop decreases_loop
 add_at c = omega arith
 
-bits-requires-2 : tie.Need-bits-requires-2 invariant-loop decreases-loop
-bits-requires-2 c κs = tt
+bits_requires_2 : tie.Need-bits-requires-2 invariant_loop decreases_loop
+bits_requires_2 c κs = tt
 
-copies-requires : tie.Need-copies-requires invariant-loop decreases-loop
-copies-requires c κs = tt
+copies_requires : tie.Need-copies-requires invariant_loop decreases_loop
+copies_requires c κs = tt
 
-loop-less : tie.Need-loop-smaller invariant-loop decreases-loop
-loop-less c = omega arith
+loop_less : tie.Need-loop-smaller invariant_loop decreases_loop
+loop_less c = omega arith
 
-loop-again : tie.Need-loop-preserved invariant-loop decreases-loop
-loop-again c = omega arith
+loop_again : tie.Need-loop-preserved invariant_loop decreases_loop
+loop_again c = omega arith
 
-loop-less-2 : tie.Need-loop-smaller-2 invariant-loop decreases-loop
-loop-less-2 c = omega arith
+loop_less_2 : tie.Need-loop-smaller-2 invariant_loop decreases_loop
+loop_less_2 c = omega arith
 
-loop-again-2 : tie.Need-loop-preserved-2 invariant-loop decreases-loop
-loop-again-2 c = omega arith
+loop_again_2 : tie.Need-loop-preserved-2 invariant_loop decreases_loop
+loop_again_2 c = omega arith
 
-returns : tie.Need-returns invariant-loop decreases-loop
+returns : tie.Need-returns invariant_loop decreases_loop
 returns c = tt
 
-pub words-spec : {M : Type 1} → statement M
-words-spec =
+pub words_spec : {M : Type 1} → statement M
+words_spec =
     tie.close
     (tie.spec
-    invariant-loop
-    decreases-loop
-    text-requires
-    loop-holds
-    bits-requires
-    add-count
+    invariant_loop
+    decreases_loop
+    text_requires
+    loop_holds
+    bits_requires
+    add_count
     add_at
-    bits-requires-2
-    copies-requires
-    loop-less
-    loop-again
-    loop-less-2
-    loop-again-2
+    bits_requires_2
+    copies_requires
+    loop_less
+    loop_again
+    loop_less_2
+    loop_again_2
     returns)

@@ -11,67 +11,67 @@ use Rattle.bounded.specs.Boolean.{both}
 use Rattle.bench_vectors.proofs.read.bytes.Statement.{statement}
 use Rattle.bench_vectors.proofs.read.bytes.Tie as tie
 
-abbrev invariant-loop : tie.invariant-loop
-invariant-loop body field bytes₀ words count₀ bytes count = (count ≤ length bytes) × (length bytes ≡ length bytes₀)
+abbrev invariant_loop : tie.invariant_loop
+invariant_loop body field bytes₀ words count₀ bytes count = (count ≤ length bytes) × (length bytes ≡ length bytes₀)
 
-abbrev decreases-loop : tie.decreases-loop
-decreases-loop body field bytes₀ words count₀ bytes count = length bytes₀ - count
+abbrev decreases_loop : tie.decreases_loop
+decreases_loop body field bytes₀ words count₀ bytes count = length bytes₀ - count
 
 -- in the loop there is a byte left
-left : (c : tie.In-loop invariant-loop decreases-loop) → c.before.loop.count < length c.before.loop.bytes
+left : (c : tie.In-loop invariant_loop decreases_loop) → c.before.loop.count < length c.before.loop.bytes
 left c = ltb-true _ _ (both (ltb c.before.loop.count (length c.before.before.table.result.now)) (ltb c.before.loop.count (length c.before.loop.bytes)) c.loop-test.true).1
 
-words-of-requires : tie.Need-words-of-requires invariant-loop decreases-loop
-words-of-requires c κs = tt
+words_of_requires : tie.Need-words-of-requires invariant_loop decreases_loop
+words_of_requires c κs = tt
 
-slice-aggregate-table : tie.Need-slice-aggregate-table invariant-loop decreases-loop
-slice-aggregate-table c = search rules
+slice_aggregate_table : tie.Need-slice-aggregate-table invariant_loop decreases_loop
+slice_aggregate_table c = search rules
 
-table-requires : tie.Need-table-requires invariant-loop decreases-loop
-table-requires c κs = tt
+table_requires : tie.Need-table-requires invariant_loop decreases_loop
+table_requires c κs = tt
 
-loop-holds : tie.Need-loop-init invariant-loop decreases-loop
-loop-holds c = (omega arith, refl)
+loop_holds : tie.Need-loop-init invariant_loop decreases_loop
+loop_holds c = (omega arith, refl)
 
-natural-requires : tie.Need-natural-requires invariant-loop decreases-loop
-natural-requires c κs = tt
+natural_requires : tie.Need-natural-requires invariant_loop decreases_loop
+natural_requires c κs = tt
 
-cast-bytes : tie.Need-overflow-cast-bytes invariant-loop decreases-loop
-cast-bytes c = search rules
+cast_bytes : tie.Need-overflow-cast-bytes invariant_loop decreases_loop
+cast_bytes c = search rules
 
-slice-write-bytes : tie.Need-slice-write-bytes invariant-loop decreases-loop
-slice-write-bytes c = left c.before
+slice_write_bytes : tie.Need-slice-write-bytes invariant_loop decreases_loop
+slice_write_bytes c = left c.before
 
-add-count : tie.Need-overflow-add-count invariant-loop decreases-loop
-add-count c = omega (arith, left c.before)
+add_count : tie.Need-overflow-add-count invariant_loop decreases_loop
+add_count c = omega (arith, left c.before)
 
-loop-less : tie.Need-loop-smaller invariant-loop decreases-loop
-loop-less c = omega (arith, left c.before)
+loop_less : tie.Need-loop-smaller invariant_loop decreases_loop
+loop_less c = omega (arith, left c.before)
 
-loop-again : tie.Need-loop-preserved invariant-loop decreases-loop
-loop-again c = simp length-set (omega (arith, left c.before))
+loop_again : tie.Need-loop-preserved invariant_loop decreases_loop
+loop_again c = simp length-set (omega (arith, left c.before))
 
-slice-aggregate-result : tie.Need-slice-aggregate-result invariant-loop decreases-loop
-slice-aggregate-result c = sym (length-take-le _ _ c.before.before.before.before.loop.invariant.0)
+slice_aggregate_result : tie.Need-slice-aggregate-result invariant_loop decreases_loop
+slice_aggregate_result c = sym (length-take-le _ _ c.before.before.before.before.loop.invariant.0)
 
-returns : tie.Need-returns invariant-loop decreases-loop
+returns : tie.Need-returns invariant_loop decreases_loop
 returns c = tt
 
-pub bytes-spec : {M : Type 1} → statement M
-bytes-spec =
+pub bytes_spec : {M : Type 1} → statement M
+bytes_spec =
     tie.close
     (tie.spec
-    invariant-loop
-    decreases-loop
-    words-of-requires
-    slice-aggregate-table
-    table-requires
-    loop-holds
-    natural-requires
-    cast-bytes
-    slice-write-bytes
-    add-count
-    loop-less
-    loop-again
-    slice-aggregate-result
+    invariant_loop
+    decreases_loop
+    words_of_requires
+    slice_aggregate_table
+    table_requires
+    loop_holds
+    natural_requires
+    cast_bytes
+    slice_write_bytes
+    add_count
+    loop_less
+    loop_again
+    slice_aggregate_result
     returns)

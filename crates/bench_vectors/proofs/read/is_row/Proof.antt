@@ -4,43 +4,43 @@ use native.Mathlib.Omega.{arith}
 use Rattle.bench_vectors.proofs.read.is_row.Statement.{statement}
 use Rattle.bench_vectors.proofs.read.is_row.Tie as tie
 
-abbrev invariant-loop : tie.invariant-loop
-invariant-loop row width place₀ place = place ≤ width
+abbrev invariant_loop : tie.invariant_loop
+invariant_loop row width place₀ place = place ≤ width
 
-abbrev decreases-loop : tie.decreases-loop
-decreases-loop row width place₀ place = width - place
+abbrev decreases_loop : tie.decreases_loop
+decreases_loop row width place₀ place = width - place
 
-loop-holds : tie.Need-loop-init invariant-loop decreases-loop
-loop-holds c = omega arith
+loop_holds : tie.Need-loop-init invariant_loop decreases_loop
+loop_holds c = omega arith
 
-in-rows-requires : tie.Need-in-rows-requires invariant-loop decreases-loop
-in-rows-requires c κs = omega arith
+in_rows_requires : tie.Need-in-rows-requires invariant_loop decreases_loop
+in_rows_requires c κs = omega arith
 
-returns : tie.Need-returns invariant-loop decreases-loop
+returns : tie.Need-returns invariant_loop decreases_loop
 returns c = tt
 
-add-place : tie.Need-overflow-add-place invariant-loop decreases-loop
-add-place c = omega arith
+add_place : tie.Need-overflow-add-place invariant_loop decreases_loop
+add_place c = omega arith
 
-loop-less : tie.Need-loop-smaller invariant-loop decreases-loop
-loop-less c = omega arith
+loop_less : tie.Need-loop-smaller invariant_loop decreases_loop
+loop_less c = omega arith
 
-loop-again : tie.Need-loop-preserved invariant-loop decreases-loop
-loop-again c = omega arith
+loop_again : tie.Need-loop-preserved invariant_loop decreases_loop
+loop_again c = omega arith
 
-returns-2 : tie.Need-returns-2 invariant-loop decreases-loop
-returns-2 c = tt
+returns_2 : tie.Need-returns-2 invariant_loop decreases_loop
+returns_2 c = tt
 
-pub is-row-spec : {M : Type 1} → statement M
-is-row-spec =
+pub is_row_spec : {M : Type 1} → statement M
+is_row_spec =
     tie.close
     (tie.spec
-    invariant-loop
-    decreases-loop
-    loop-holds
-    in-rows-requires
+    invariant_loop
+    decreases_loop
+    loop_holds
+    in_rows_requires
     returns
-    add-place
-    loop-less
-    loop-again
-    returns-2)
+    add_place
+    loop_less
+    loop_again
+    returns_2)

@@ -4,18 +4,18 @@ use lib.Seq.{length-take-le}
 use Rattle.bench_vectors.proofs.read.lent_words.Statement.{statement}
 use Rattle.bench_vectors.proofs.read.lent_words.Tie as tie
 
-long-requires : tie.Need-long-requires
-long-requires c κs = tt
+long_requires : tie.Need-long-requires
+long_requires c κs = tt
 
 returns : tie.Need-returns
 returns c = tt
 
-slice-aggregate-result : tie.Need-slice-aggregate-result
-slice-aggregate-result c = sym (length-take-le _ _ c.before.if1.false)
+slice_aggregate_result : tie.Need-slice-aggregate-result
+slice_aggregate_result c = sym (length-take-le _ _ c.before.if1.false)
 
-returns-2 : tie.Need-returns-2
-returns-2 c = tt
+returns_2 : tie.Need-returns-2
+returns_2 c = tt
 
-pub lent-words-spec : {M : Type 1} → statement M
-lent-words-spec =
-    tie.close (tie.spec long-requires returns slice-aggregate-result returns-2)
+pub lent_words_spec : {M : Type 1} → statement M
+lent_words_spec =
+    tie.close (tie.spec long_requires returns slice_aggregate_result returns_2)

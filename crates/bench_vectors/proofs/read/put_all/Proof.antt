@@ -6,51 +6,51 @@ use lib.ListN.{length}
 use Rattle.bench_vectors.proofs.read.put_all.Statement.{statement}
 use Rattle.bench_vectors.proofs.read.put_all.Tie as tie
 
-abbrev invariant-loop : tie.invariant-loop
-invariant-loop field table₀ last count₀ entry₀ table count entry = length table ≡ length table₀
+abbrev invariant_loop : tie.invariant_loop
+invariant_loop field table₀ last count₀ entry₀ table count entry = length table ≡ length table₀
 
-abbrev decreases-loop : tie.decreases-loop
-decreases-loop field table₀ last count₀ entry₀ table count entry = last + 1 - entry
+abbrev decreases_loop : tie.decreases_loop
+decreases_loop field table₀ last count₀ entry₀ table count entry = last + 1 - entry
 
-last-requires : tie.Need-last-requires invariant-loop decreases-loop
-last-requires c κs = tt
+last_requires : tie.Need-last-requires invariant_loop decreases_loop
+last_requires c κs = tt
 
-loop-holds : tie.Need-loop-init invariant-loop decreases-loop
-loop-holds c = omega arith
+loop_holds : tie.Need-loop-init invariant_loop decreases_loop
+loop_holds c = omega arith
 
-part-requires : tie.Need-part-requires invariant-loop decreases-loop
-part-requires c κs = tt
+part_requires : tie.Need-part-requires invariant_loop decreases_loop
+part_requires c κs = tt
 
-put-requires : tie.Need-put-requires invariant-loop decreases-loop
-put-requires c κs = tt
+put_requires : tie.Need-put-requires invariant_loop decreases_loop
+put_requires c κs = tt
 
-add-entry : tie.Need-overflow-add-entry invariant-loop decreases-loop
-add-entry c = omega arith
+add_entry : tie.Need-overflow-add-entry invariant_loop decreases_loop
+add_entry c = omega arith
 
-loop-less : tie.Need-loop-smaller invariant-loop decreases-loop
-loop-less c = omega arith
+loop_less : tie.Need-loop-smaller invariant_loop decreases_loop
+loop_less c = omega arith
 
-loop-again : tie.Need-loop-preserved invariant-loop decreases-loop
-loop-again c = omega arith
+loop_again : tie.Need-loop-preserved invariant_loop decreases_loop
+loop_again c = omega arith
 
-same_length : tie.Need-same-length invariant-loop decreases-loop
+same_length : tie.Need-same-length invariant_loop decreases_loop
 same_length c = omega arith
 
-returns : tie.Need-returns invariant-loop decreases-loop
+returns : tie.Need-returns invariant_loop decreases_loop
 returns c = tt
 
-pub put-all-spec : {M : Type 1} → statement M
-put-all-spec =
+pub put_all_spec : {M : Type 1} → statement M
+put_all_spec =
     tie.close
     (tie.spec
-    invariant-loop
-    decreases-loop
-    last-requires
-    loop-holds
-    part-requires
-    put-requires
-    add-entry
-    loop-less
-    loop-again
+    invariant_loop
+    decreases_loop
+    last_requires
+    loop_holds
+    part_requires
+    put_requires
+    add_entry
+    loop_less
+    loop_again
     same_length
     returns)

@@ -2,74 +2,74 @@
 use Prim.Native.Nat.{◌-◌}
 use mathlib.Core.Path.{ap}
 use native.Mathlib.Omega.{arith}
-use Rattle.request_table.specs.Buffers.{endOrZero}
-use Rattle.request_table.specs.Needs.{Needing, needing-start, needing-more, needing-done}
-use Rattle.alignment.specs.Rounding.{up-most}
-use Rattle.greedy_rule.specs.Greedy.{greedyPlan}
-use Rattle.greedy_rule.specs.Plan.{greedyNeed}
-use Rattle.greedy_planner.proofs.RowBuffer.{row-buffer}
+use Rattle.request_table.specs.Buffers.{end_or_zero}
+use Rattle.request_table.specs.Needs.{Needing, needing_start, needing_more, needing_done}
+use Rattle.alignment.specs.Rounding.{up_most}
+use Rattle.greedy_rule.specs.Greedy.{greedy_plan}
+use Rattle.greedy_rule.specs.Plan.{greedy_need}
+use Rattle.greedy_planner.proofs.RowBuffer.{row_buffer}
 use Rattle.greedy_planner.proofs.need.need_of.Statement.{statement}
 use Rattle.greedy_planner.proofs.need.need_of.Tie as tie
 
-abbrev invariant-loop : tie.invariant-loop
-invariant-loop grid table offsets n need₀ row₀ need row = Needing grid table (greedyPlan grid table) need row.0
+abbrev invariant_loop : tie.invariant_loop
+invariant_loop grid table offsets n need₀ row₀ need row = Needing grid table (greedy_plan grid table) need row.0
 
-abbrev decreases-loop : tie.decreases-loop
-decreases-loop grid table offsets n need₀ row₀ need row = n - row.0
+abbrev decreases_loop : tie.decreases_loop
+decreases_loop grid table offsets n need₀ row₀ need row = n - row.0
 
-loop-holds : tie.Need-loop-init invariant-loop decreases-loop
-loop-holds c = needing-start _ _ _
+loop_holds : tie.Need-loop-init invariant_loop decreases_loop
+loop_holds c = needing_start _ _ _
 
-request-at-requires : tie.Need-request-at-requires invariant-loop decreases-loop
-request-at-requires c κs = tt
+request_at_requires : tie.Need-request-at-requires invariant_loop decreases_loop
+request_at_requires c κs = tt
 
-mul-offset : tie.Need-overflow-mul-offset invariant-loop decreases-loop
-mul-offset c = omega (arith, c.before.if1.true)
+mul_offset : tie.Need-overflow-mul-offset invariant_loop decreases_loop
+mul_offset c = omega (arith, c.before.if1.true)
 
-array-copy-out-offset : tie.Need-array-copy-out-offset invariant-loop decreases-loop
-array-copy-out-offset c = omega (arith, c.before.if1.true)
+array_copy_out_offset : tie.Need-array-copy-out-offset invariant_loop decreases_loop
+array_copy_out_offset c = omega (arith, c.before.if1.true)
 
-buffer-at-requires : tie.Need-buffer-at-requires invariant-loop decreases-loop
-buffer-at-requires c κs = tt
+buffer_at_requires : tie.Need-buffer-at-requires invariant_loop decreases_loop
+buffer_at_requires c κs = tt
 
-raised-requires : tie.Need-raised-requires invariant-loop decreases-loop
-raised-requires c κs =
+raised_requires : tie.Need-raised-requires invariant_loop decreases_loop
+raised_requires c κs =
     let u = c.before.before.before.before.before.before in
     let b = c.buffer-at.ensures in
     let o = u.requires.1.small c.before.before.before.before.before.loop.row.0 c.before.before.before.if1.true in
-    let l = up-most u.args.grid c.before.before.request-at.result.size in
+    let l = up_most u.args.grid c.before.before.request-at.result.size in
     rw b (omega arith)
 
-add-t13 : tie.Need-overflow-add-t13 invariant-loop decreases-loop
-add-t13 c = omega (arith, c.before.before.before.before.if1.true)
+add_t13 : tie.Need-overflow-add-t13 invariant_loop decreases_loop
+add_t13 c = omega (arith, c.before.before.before.before.if1.true)
 
-loop-less : tie.Need-loop-smaller invariant-loop decreases-loop
-loop-less c = omega (arith, c.before.before.before.before.if1.true)
+loop_less : tie.Need-loop-smaller invariant_loop decreases_loop
+loop_less c = omega (arith, c.before.before.before.before.if1.true)
 
-loop-again : tie.Need-loop-preserved invariant-loop decreases-loop
-loop-again c =
+loop_again : tie.Need-loop-preserved invariant_loop decreases_loop
+loop_again c =
     let u = c.before.before.before.before.before.before.before in
     let i = c.before.before.before.before.before.before.loop.row.0 in
     let l = c.before.before.before.before.if1.true in
-    needing-more c.before.before.before.before.before.before.loop.invariant l (ap endOrZero (row-buffer u.args.grid _ i c.before.before.before.request-at.ensures (u.requires.1.each i l) c.before.buffer-at.ensures)) c.raised.ensures
+    needing_more c.before.before.before.before.before.before.loop.invariant l (ap end_or_zero (row_buffer u.args.grid _ i c.before.before.before.request-at.ensures (u.requires.1.each i l) c.before.buffer-at.ensures)) c.raised.ensures
 
-returns : tie.Need-returns invariant-loop decreases-loop
-unfolding greedyNeed
-returns c = needing-done c.before.before.loop.invariant c.if1.false
+returns : tie.Need-returns invariant_loop decreases_loop
+unfolding greedy_need
+returns c = needing_done c.before.before.loop.invariant c.if1.false
 
-pub need-of-spec : {M : Type 1} → statement M
-need-of-spec =
+pub need_of_spec : {M : Type 1} → statement M
+need_of_spec =
     tie.close
     (tie.spec
-    invariant-loop
-    decreases-loop
-    loop-holds
-    request-at-requires
-    mul-offset
-    array-copy-out-offset
-    buffer-at-requires
-    raised-requires
-    add-t13
-    loop-less
-    loop-again
+    invariant_loop
+    decreases_loop
+    loop_holds
+    request_at_requires
+    mul_offset
+    array_copy_out_offset
+    buffer_at_requires
+    raised_requires
+    add_t13
+    loop_less
+    loop_again
     returns)

@@ -4,63 +4,63 @@ use native.Mathlib.Omega.{arith}
 use Rattle.make_sheet.proofs.rows.put_words.Statement.{statement}
 use Rattle.make_sheet.proofs.rows.put_words.Tie as tie
 
-abbrev invariant-loop : tie.invariant-loop
-invariant-loop rows₀ place line first count turn₀ rows turn = turn ≤ count
+abbrev invariant_loop : tie.invariant_loop
+invariant_loop rows₀ place line first count turn₀ rows turn = turn ≤ count
 
-abbrev decreases-loop : tie.decreases-loop
-decreases-loop rows₀ place line first count turn₀ rows turn = count - turn
+abbrev decreases_loop : tie.decreases_loop
+decreases_loop rows₀ place line first count turn₀ rows turn = count - turn
 
-loop-holds : tie.Need-loop-init invariant-loop decreases-loop
-loop-holds c = omega arith
+loop_holds : tie.Need-loop-init invariant_loop decreases_loop
+loop_holds c = omega arith
 
-add-word : tie.Need-overflow-add-word invariant-loop decreases-loop
-add-word c = omega arith
+add_word : tie.Need-overflow-add-word invariant_loop decreases_loop
+add_word c = omega arith
 
-word-requires : tie.Need-word-requires invariant-loop decreases-loop
-word-requires c κs = tt
+word_requires : tie.Need-word-requires invariant_loop decreases_loop
+word_requires c κs = tt
 
-number-of-requires : tie.Need-number-of-requires invariant-loop decreases-loop
-number-of-requires c κs = tt
+number_of_requires : tie.Need-number-of-requires invariant_loop decreases_loop
+number_of_requires c κs = tt
 
-returns : tie.Need-returns invariant-loop decreases-loop
+returns : tie.Need-returns invariant_loop decreases_loop
 returns c = tt
 
-add-put-word : tie.Need-overflow-add-put-word invariant-loop decreases-loop
-add-put-word c = omega arith
+add_put_word : tie.Need-overflow-add-put-word invariant_loop decreases_loop
+add_put_word c = omega arith
 
-mul-put-word : tie.Need-overflow-mul-put-word invariant-loop decreases-loop
-mul-put-word c = omega arith
+mul_put_word : tie.Need-overflow-mul-put-word invariant_loop decreases_loop
+mul_put_word c = omega arith
 
-put-word-requires : tie.Need-put-word-requires invariant-loop decreases-loop
-put-word-requires c κs = tt
+put_word_requires : tie.Need-put-word-requires invariant_loop decreases_loop
+put_word_requires c κs = tt
 
-add_turn : tie.Need-overflow-add-turn invariant-loop decreases-loop
+add_turn : tie.Need-overflow-add-turn invariant_loop decreases_loop
 add_turn c = omega arith
 
-loop-less : tie.Need-loop-smaller invariant-loop decreases-loop
-loop-less c = omega arith
+loop_less : tie.Need-loop-smaller invariant_loop decreases_loop
+loop_less c = omega arith
 
-loop-again : tie.Need-loop-preserved invariant-loop decreases-loop
-loop-again c = omega arith
+loop_again : tie.Need-loop-preserved invariant_loop decreases_loop
+loop_again c = omega arith
 
-returns-2 : tie.Need-returns-2 invariant-loop decreases-loop
-returns-2 c = tt
+returns_2 : tie.Need-returns-2 invariant_loop decreases_loop
+returns_2 c = tt
 
-pub put-words-spec : {M : Type 1} → statement M
-put-words-spec =
+pub put_words_spec : {M : Type 1} → statement M
+put_words_spec =
     tie.close
     (tie.spec
-    invariant-loop
-    decreases-loop
-    loop-holds
-    add-word
-    word-requires
-    number-of-requires
+    invariant_loop
+    decreases_loop
+    loop_holds
+    add_word
+    word_requires
+    number_of_requires
     returns
-    add-put-word
-    mul-put-word
-    put-word-requires
+    add_put_word
+    mul_put_word
+    put_word_requires
     add_turn
-    loop-less
-    loop-again
-    returns-2)
+    loop_less
+    loop_again
+    returns_2)

@@ -4,43 +4,43 @@ use native.Mathlib.Omega.{arith}
 use Rattle.make_sheet.proofs.text.count_words.Statement.{statement}
 use Rattle.make_sheet.proofs.text.count_words.Tie as tie
 
-abbrev invariant-loop : tie.invariant-loop
-invariant-loop line enough count₀ count = count ≤ enough
+abbrev invariant_loop : tie.invariant_loop
+invariant_loop line enough count₀ count = count ≤ enough
 
-abbrev decreases-loop : tie.decreases-loop
-decreases-loop line enough count₀ count = enough - count
+abbrev decreases_loop : tie.decreases_loop
+decreases_loop line enough count₀ count = enough - count
 
-loop-holds : tie.Need-loop-init invariant-loop decreases-loop
-loop-holds c = omega arith
+loop_holds : tie.Need-loop-init invariant_loop decreases_loop
+loop_holds c = omega arith
 
-word-requires : tie.Need-word-requires invariant-loop decreases-loop
-word-requires c κs = tt
+word_requires : tie.Need-word-requires invariant_loop decreases_loop
+word_requires c κs = tt
 
-returns : tie.Need-returns invariant-loop decreases-loop
+returns : tie.Need-returns invariant_loop decreases_loop
 returns c = omega arith
 
-add-count : tie.Need-overflow-add-count invariant-loop decreases-loop
-add-count c = omega arith
+add_count : tie.Need-overflow-add-count invariant_loop decreases_loop
+add_count c = omega arith
 
-loop-less : tie.Need-loop-smaller invariant-loop decreases-loop
-loop-less c = omega arith
+loop_less : tie.Need-loop-smaller invariant_loop decreases_loop
+loop_less c = omega arith
 
-loop-again : tie.Need-loop-preserved invariant-loop decreases-loop
-loop-again c = omega arith
+loop_again : tie.Need-loop-preserved invariant_loop decreases_loop
+loop_again c = omega arith
 
-returns-2 : tie.Need-returns-2 invariant-loop decreases-loop
-returns-2 c = omega arith
+returns_2 : tie.Need-returns-2 invariant_loop decreases_loop
+returns_2 c = omega arith
 
-pub count-words-spec : {M : Type 1} → statement M
-count-words-spec =
+pub count_words_spec : {M : Type 1} → statement M
+count_words_spec =
     tie.close
     (tie.spec
-    invariant-loop
-    decreases-loop
-    loop-holds
-    word-requires
+    invariant_loop
+    decreases_loop
+    loop_holds
+    word_requires
     returns
-    add-count
-    loop-less
-    loop-again
-    returns-2)
+    add_count
+    loop_less
+    loop_again
+    returns_2)

@@ -5,43 +5,43 @@ use lib.ListN.{length}
 use Rattle.make_sheet.proofs.text.find.Statement.{statement}
 use Rattle.make_sheet.proofs.text.find.Tie as tie
 
-abbrev invariant-loop : tie.invariant-loop
-invariant-loop text start one other stands at₀ at = (start ≤ at) × (at ≤ length text)
+abbrev invariant_loop : tie.invariant_loop
+invariant_loop text start one other stands at₀ at = (start ≤ at) × (at ≤ length text)
 
-abbrev decreases-loop : tie.decreases-loop
-decreases-loop text start one other stands at₀ at = length text - at
+abbrev decreases_loop : tie.decreases_loop
+decreases_loop text start one other stands at₀ at = length text - at
 
-loop-holds : tie.Need-loop-init invariant-loop decreases-loop
-loop-holds c = omega arith
+loop_holds : tie.Need-loop-init invariant_loop decreases_loop
+loop_holds c = omega arith
 
-shared-slice-read-byte : tie.Need-shared-slice-read-byte invariant-loop decreases-loop
-shared-slice-read-byte c = omega arith
+shared_slice_read_byte : tie.Need-shared-slice-read-byte invariant_loop decreases_loop
+shared_slice_read_byte c = omega arith
 
-returns : tie.Need-returns invariant-loop decreases-loop
+returns : tie.Need-returns invariant_loop decreases_loop
 returns c = omega arith
 
-add_at : tie.Need-overflow-add-at invariant-loop decreases-loop
+add_at : tie.Need-overflow-add-at invariant_loop decreases_loop
 add_at c = omega arith
 
-loop-less : tie.Need-loop-smaller invariant-loop decreases-loop
-loop-less c = omega arith
+loop_less : tie.Need-loop-smaller invariant_loop decreases_loop
+loop_less c = omega arith
 
-loop-again : tie.Need-loop-preserved invariant-loop decreases-loop
-loop-again c = omega arith
+loop_again : tie.Need-loop-preserved invariant_loop decreases_loop
+loop_again c = omega arith
 
-returns-2 : tie.Need-returns-2 invariant-loop decreases-loop
-returns-2 c = omega arith
+returns_2 : tie.Need-returns-2 invariant_loop decreases_loop
+returns_2 c = omega arith
 
 pub find_spec : {M : Type 1} → statement M
 find_spec =
     tie.close
     (tie.spec
-    invariant-loop
-    decreases-loop
-    loop-holds
-    shared-slice-read-byte
+    invariant_loop
+    decreases_loop
+    loop_holds
+    shared_slice_read_byte
     returns
     add_at
-    loop-less
-    loop-again
-    returns-2)
+    loop_less
+    loop_again
+    returns_2)

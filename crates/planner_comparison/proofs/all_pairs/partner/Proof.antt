@@ -4,51 +4,51 @@ use native.Mathlib.Omega.{arith}
 use Rattle.planner_comparison.proofs.all_pairs.partner.Statement.{statement}
 use Rattle.planner_comparison.proofs.all_pairs.partner.Tie as tie
 
-abbrev invariant-loop : tie.invariant-loop
-invariant-loop requests places a fixed-only count b₀ b = Unit {0}
+abbrev invariant_loop : tie.invariant_loop
+invariant_loop requests places a fixed_only count b₀ b = Unit {0}
 
-abbrev decreases-loop : tie.decreases-loop
-decreases-loop requests places a fixed-only count b₀ b = count - b
+abbrev decreases_loop : tie.decreases_loop
+decreases_loop requests places a fixed_only count b₀ b = count - b
 
-count-requires : tie.Need-count-requires invariant-loop decreases-loop
-count-requires c κs = tt
+count_requires : tie.Need-count-requires invariant_loop decreases_loop
+count_requires c κs = tt
 
-sum-requires : tie.Need-sum-requires invariant-loop decreases-loop
-sum-requires c κs = tt
+sum_requires : tie.Need-sum-requires invariant_loop decreases_loop
+sum_requires c κs = tt
 
-loop-holds : tie.Need-loop-init invariant-loop decreases-loop
-loop-holds c = tt
+loop_holds : tie.Need-loop-init invariant_loop decreases_loop
+loop_holds c = tt
 
-clash-requires : tie.Need-clash-requires invariant-loop decreases-loop
-clash-requires c κs = tt
+clash_requires : tie.Need-clash-requires invariant_loop decreases_loop
+clash_requires c κs = tt
 
-returns : tie.Need-returns invariant-loop decreases-loop
+returns : tie.Need-returns invariant_loop decreases_loop
 returns c = tt
 
-add-b : tie.Need-overflow-add-b invariant-loop decreases-loop
-add-b c = omega arith
+add_b : tie.Need-overflow-add-b invariant_loop decreases_loop
+add_b c = omega arith
 
-loop-less : tie.Need-loop-smaller invariant-loop decreases-loop
-loop-less c = omega arith
+loop_less : tie.Need-loop-smaller invariant_loop decreases_loop
+loop_less c = omega arith
 
-loop-again : tie.Need-loop-preserved invariant-loop decreases-loop
-loop-again c = tt
+loop_again : tie.Need-loop-preserved invariant_loop decreases_loop
+loop_again c = tt
 
-returns-2 : tie.Need-returns-2 invariant-loop decreases-loop
-returns-2 c = tt
+returns_2 : tie.Need-returns-2 invariant_loop decreases_loop
+returns_2 c = tt
 
-pub partner-spec : {M : Type 1} → statement M
-partner-spec =
+pub partner_spec : {M : Type 1} → statement M
+partner_spec =
     tie.close
     (tie.spec
-    invariant-loop
-    decreases-loop
-    count-requires
-    sum-requires
-    loop-holds
-    clash-requires
+    invariant_loop
+    decreases_loop
+    count_requires
+    sum_requires
+    loop_holds
+    clash_requires
     returns
-    add-b
-    loop-less
-    loop-again
-    returns-2)
+    add_b
+    loop_less
+    loop_again
+    returns_2)

@@ -6,67 +6,67 @@ use lib.ListN.{length}
 use Rattle.planner_comparison.proofs.compare.inspect_changes.Statement.{statement}
 use Rattle.planner_comparison.proofs.compare.inspect_changes.Tie as tie
 
-abbrev invariant-loop : tie.invariant-loop
-invariant-loop number requests space room tally₀ offsets count rows change₀ tally change = length tally ≡ length tally₀
+abbrev invariant_loop : tie.invariant_loop
+invariant_loop number requests space room tally₀ offsets count rows change₀ tally change = length tally ≡ length tally₀
 
-abbrev decreases-loop : tie.decreases-loop
-decreases-loop number requests space room tally₀ offsets count rows change₀ tally change = count - change
+abbrev decreases_loop : tie.decreases_loop
+decreases_loop number requests space room tally₀ offsets count rows change₀ tally change = count - change
 
-count-requires : tie.Need-count-requires invariant-loop decreases-loop
-count-requires c κs = tt
+count_requires : tie.Need-count-requires invariant_loop decreases_loop
+count_requires c κs = tt
 
-count-requires-2 : tie.Need-count-requires-2 invariant-loop decreases-loop
-count-requires-2 c κs = tt
+count_requires_2 : tie.Need-count-requires-2 invariant_loop decreases_loop
+count_requires_2 c κs = tt
 
-narrow-requires : tie.Need-narrow-requires invariant-loop decreases-loop
-narrow-requires c κs = tt
+narrow_requires : tie.Need-narrow-requires invariant_loop decreases_loop
+narrow_requires c κs = tt
 
-loop-holds : tie.Need-loop-init invariant-loop decreases-loop
-loop-holds c = omega arith
+loop_holds : tie.Need-loop-init invariant_loop decreases_loop
+loop_holds c = omega arith
 
-apply-requires : tie.Need-apply-requires invariant-loop decreases-loop
-apply-requires c κs = tt
+apply_requires : tie.Need-apply-requires invariant_loop decreases_loop
+apply_requires c κs = tt
 
-slice-aggregate-front : tie.Need-slice-aggregate-front invariant-loop decreases-loop
-slice-aggregate-front c = omega arith
+slice_aggregate_front : tie.Need-slice-aggregate-front invariant_loop decreases_loop
+slice_aggregate_front c = omega arith
 
-front-requires : tie.Need-front-requires invariant-loop decreases-loop
-front-requires c κs = tt
+front_requires : tie.Need-front-requires invariant_loop decreases_loop
+front_requires c κs = tt
 
-inspect-requires : tie.Need-inspect-requires invariant-loop decreases-loop
-inspect-requires c κs = tt
+inspect_requires : tie.Need-inspect-requires invariant_loop decreases_loop
+inspect_requires c κs = tt
 
-add-change : tie.Need-overflow-add-change invariant-loop decreases-loop
-add-change c = omega arith
+add_change : tie.Need-overflow-add-change invariant_loop decreases_loop
+add_change c = omega arith
 
-loop-less : tie.Need-loop-smaller invariant-loop decreases-loop
-loop-less c = omega arith
+loop_less : tie.Need-loop-smaller invariant_loop decreases_loop
+loop_less c = omega arith
 
-loop-again : tie.Need-loop-preserved invariant-loop decreases-loop
-loop-again c = omega arith
+loop_again : tie.Need-loop-preserved invariant_loop decreases_loop
+loop_again c = omega arith
 
-same_length : tie.Need-same-length invariant-loop decreases-loop
+same_length : tie.Need-same-length invariant_loop decreases_loop
 same_length c = omega arith
 
-returns : tie.Need-returns invariant-loop decreases-loop
+returns : tie.Need-returns invariant_loop decreases_loop
 returns c = tt
 
-pub inspect-changes-spec : {M : Type 1} → statement M
-inspect-changes-spec =
+pub inspect_changes_spec : {M : Type 1} → statement M
+inspect_changes_spec =
     tie.close
     (tie.spec
-    invariant-loop
-    decreases-loop
-    count-requires
-    count-requires-2
-    narrow-requires
-    loop-holds
-    apply-requires
-    slice-aggregate-front
-    front-requires
-    inspect-requires
-    add-change
-    loop-less
-    loop-again
+    invariant_loop
+    decreases_loop
+    count_requires
+    count_requires_2
+    narrow_requires
+    loop_holds
+    apply_requires
+    slice_aggregate_front
+    front_requires
+    inspect_requires
+    add_change
+    loop_less
+    loop_again
     same_length
     returns)

@@ -5,47 +5,47 @@ use lib.ListN.{length}
 use Rattle.planner_comparison.proofs.compare.same_table.Statement.{statement}
 use Rattle.planner_comparison.proofs.compare.same_table.Tie as tie
 
-abbrev invariant-loop : tie.invariant-loop
-invariant-loop a b at₀ at = Unit {0}
+abbrev invariant_loop : tie.invariant_loop
+invariant_loop a b at₀ at = Unit {0}
 
-abbrev decreases-loop : tie.decreases-loop
-decreases-loop a b at₀ at = length a - at
+abbrev decreases_loop : tie.decreases_loop
+decreases_loop a b at₀ at = length a - at
 
-loop-holds : tie.Need-loop-init invariant-loop decreases-loop
-loop-holds c = tt
+loop_holds : tie.Need-loop-init invariant_loop decreases_loop
+loop_holds c = tt
 
-word-requires : tie.Need-word-requires invariant-loop decreases-loop
-word-requires c κs = tt
+word_requires : tie.Need-word-requires invariant_loop decreases_loop
+word_requires c κs = tt
 
-word-requires-2 : tie.Need-word-requires-2 invariant-loop decreases-loop
-word-requires-2 c κs = tt
+word_requires_2 : tie.Need-word-requires-2 invariant_loop decreases_loop
+word_requires_2 c κs = tt
 
-returns : tie.Need-returns invariant-loop decreases-loop
+returns : tie.Need-returns invariant_loop decreases_loop
 returns c = tt
 
-add_at : tie.Need-overflow-add-at invariant-loop decreases-loop
+add_at : tie.Need-overflow-add-at invariant_loop decreases_loop
 add_at c = omega arith
 
-loop-less : tie.Need-loop-smaller invariant-loop decreases-loop
-loop-less c = omega arith
+loop_less : tie.Need-loop-smaller invariant_loop decreases_loop
+loop_less c = omega arith
 
-loop-again : tie.Need-loop-preserved invariant-loop decreases-loop
-loop-again c = tt
+loop_again : tie.Need-loop-preserved invariant_loop decreases_loop
+loop_again c = tt
 
-returns-2 : tie.Need-returns-2 invariant-loop decreases-loop
-returns-2 c = tt
+returns_2 : tie.Need-returns-2 invariant_loop decreases_loop
+returns_2 c = tt
 
-pub same-table-spec : {M : Type 1} → statement M
-same-table-spec =
+pub same_table_spec : {M : Type 1} → statement M
+same_table_spec =
     tie.close
     (tie.spec
-    invariant-loop
-    decreases-loop
-    loop-holds
-    word-requires
-    word-requires-2
+    invariant_loop
+    decreases_loop
+    loop_holds
+    word_requires
+    word_requires_2
     returns
     add_at
-    loop-less
-    loop-again
-    returns-2)
+    loop_less
+    loop_again
+    returns_2)

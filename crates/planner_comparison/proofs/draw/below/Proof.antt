@@ -9,40 +9,40 @@ use Rattle.planner_comparison.proofs.draw.below.Tie as tie
 returns : tie.Need-returns
 returns c = search rules
 
-mul-seed : tie.Need-overflow-mul-seed
-mul-seed c = search rules
+mul_seed : tie.Need-overflow-mul-seed
+mul_seed c = search rules
 
-add-seed : tie.Need-overflow-add-seed
-add-seed c = search rules
+add_seed : tie.Need-overflow-add-seed
+add_seed c = search rules
 
-mixed-requires : tie.Need-mixed-requires
-mixed-requires c κs = search rules
+mixed_requires : tie.Need-mixed-requires
+mixed_requires c κs = search rules
 
-mixed-requires-2 : tie.Need-mixed-requires-2
-mixed-requires-2 c κs = search rules
+mixed_requires_2 : tie.Need-mixed-requires-2
+mixed_requires_2 c κs = search rules
 
-mixed-requires-3 : tie.Need-mixed-requires-3
-mixed-requires-3 c κs = search rules
+mixed_requires_3 : tie.Need-mixed-requires-3
+mixed_requires_3 c κs = search rules
 
-cast-result : tie.Need-overflow-cast-result
-cast-result c = search rules
+cast_result : tie.Need-overflow-cast-result
+cast_result c = search rules
 
-rem-result : tie.Need-nonzero-rem-result
-rem-result c = search rules
+rem_result : tie.Need-nonzero-rem-result
+rem_result c = search rules
 
-returns-2 : tie.Need-returns-2
-returns-2 c = omega (arith, mod-le (c.mixed3.result / 65536 % 16777216) c.before.before.before.before.args.bound)
+returns_2 : tie.Need-returns-2
+returns_2 c = omega (arith, mod-le (c.mixed3.result / 65536 % 16777216) c.before.before.before.before.args.bound)
 
-pub below-spec : {M : Type 1} → statement M
-below-spec =
+pub below_spec : {M : Type 1} → statement M
+below_spec =
     tie.close
     (tie.spec
     returns
-    mul-seed
-    add-seed
-    mixed-requires
-    mixed-requires-2
-    mixed-requires-3
-    cast-result
-    rem-result
-    returns-2)
+    mul_seed
+    add_seed
+    mixed_requires
+    mixed_requires_2
+    mixed_requires_3
+    cast_result
+    rem_result
+    returns_2)

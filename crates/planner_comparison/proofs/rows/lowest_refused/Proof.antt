@@ -4,55 +4,55 @@ use native.Mathlib.Omega.{arith}
 use Rattle.planner_comparison.proofs.rows.lowest_refused.Statement.{statement}
 use Rattle.planner_comparison.proofs.rows.lowest_refused.Tie as tie
 
-abbrev invariant-loop : tie.invariant-loop
-invariant-loop number requests offsets rows row₀ row = Unit {0}
+abbrev invariant_loop : tie.invariant_loop
+invariant_loop number requests offsets rows row₀ row = Unit {0}
 
-abbrev decreases-loop : tie.decreases-loop
-decreases-loop number requests offsets rows row₀ row = rows - row
+abbrev decreases_loop : tie.decreases_loop
+decreases_loop number requests offsets rows row₀ row = rows - row
 
-count-requires : tie.Need-count-requires invariant-loop decreases-loop
-count-requires c κs = tt
+count_requires : tie.Need-count-requires invariant_loop decreases_loop
+count_requires c κs = tt
 
-loop-holds : tie.Need-loop-init invariant-loop decreases-loop
-loop-holds c = tt
+loop_holds : tie.Need-loop-init invariant_loop decreases_loop
+loop_holds c = tt
 
-read-requires : tie.Need-read-requires invariant-loop decreases-loop
-read-requires c κs = tt
+read_requires : tie.Need-read-requires invariant_loop decreases_loop
+read_requires c κs = tt
 
-word-requires : tie.Need-word-requires invariant-loop decreases-loop
-word-requires c κs = tt
+word_requires : tie.Need-word-requires invariant_loop decreases_loop
+word_requires c κs = tt
 
-is-refused-requires : tie.Need-is-refused-requires invariant-loop decreases-loop
-is-refused-requires c κs = tt
+is_refused_requires : tie.Need-is-refused-requires invariant_loop decreases_loop
+is_refused_requires c κs = tt
 
-returns : tie.Need-returns invariant-loop decreases-loop
+returns : tie.Need-returns invariant_loop decreases_loop
 returns c = tt
 
-add_row : tie.Need-overflow-add-row invariant-loop decreases-loop
+add_row : tie.Need-overflow-add-row invariant_loop decreases_loop
 add_row c = omega arith
 
-loop-less : tie.Need-loop-smaller invariant-loop decreases-loop
-loop-less c = omega arith
+loop_less : tie.Need-loop-smaller invariant_loop decreases_loop
+loop_less c = omega arith
 
-loop-again : tie.Need-loop-preserved invariant-loop decreases-loop
-loop-again c = tt
+loop_again : tie.Need-loop-preserved invariant_loop decreases_loop
+loop_again c = tt
 
-returns-2 : tie.Need-returns-2 invariant-loop decreases-loop
-returns-2 c = tt
+returns_2 : tie.Need-returns-2 invariant_loop decreases_loop
+returns_2 c = tt
 
-pub lowest-refused-spec : {M : Type 1} → statement M
-lowest-refused-spec =
+pub lowest_refused_spec : {M : Type 1} → statement M
+lowest_refused_spec =
     tie.close
     (tie.spec
-    invariant-loop
-    decreases-loop
-    count-requires
-    loop-holds
-    read-requires
-    word-requires
-    is-refused-requires
+    invariant_loop
+    decreases_loop
+    count_requires
+    loop_holds
+    read_requires
+    word_requires
+    is_refused_requires
     returns
     add_row
-    loop-less
-    loop-again
-    returns-2)
+    loop_less
+    loop_again
+    returns_2)

@@ -7,11 +7,11 @@ use Rattle.planner_comparison.proofs.table.front.Tie as tie
 returns : tie.Need-returns
 returns c = tt
 
-slice-aggregate-result : tie.Need-slice-aggregate-result
-slice-aggregate-result c = sym (length-take-le _ _ c.before.if1.false)
+slice_aggregate_result : tie.Need-slice-aggregate-result
+slice_aggregate_result c = sym (length-take-le _ _ c.before.if1.false)
 
-returns-2 : tie.Need-returns-2
-returns-2 c = tt
+returns_2 : tie.Need-returns-2
+returns_2 c = tt
 
-pub front-spec : {M : Type 1} → statement M
-front-spec = tie.close (tie.spec returns slice-aggregate-result returns-2)
+pub front_spec : {M : Type 1} → statement M
+front_spec = tie.close (tie.spec returns slice_aggregate_result returns_2)

@@ -4,67 +4,67 @@ use native.Mathlib.Omega.{arith}
 use Rattle.planner_comparison.proofs.tally.print_answers.Statement.{statement}
 use Rattle.planner_comparison.proofs.tally.print_answers.Tie as tie
 
-abbrev invariant-loop : tie.invariant-loop
-invariant-loop name tally from count number₀ t6 t7 number = Unit {0}
+abbrev invariant_loop : tie.invariant_loop
+invariant_loop name tally from count number₀ t6 t7 number = Unit {0}
 
-abbrev decreases-loop : tie.decreases-loop
-decreases-loop name tally from count number₀ t6 t7 number = count - number
+abbrev decreases_loop : tie.decreases_loop
+decreases_loop name tally from count number₀ t6 t7 number = count - number
 
-loop-holds : tie.Need-loop-init invariant-loop decreases-loop
-loop-holds c = tt
+loop_holds : tie.Need-loop-init invariant_loop decreases_loop
+loop_holds c = tt
 
-write-all-requires : tie.Need-write-all-requires invariant-loop decreases-loop
-write-all-requires c κs = tt
+write_all_requires : tie.Need-write-all-requires invariant_loop decreases_loop
+write_all_requires c κs = tt
 
-slice-aggregate-write-all : tie.Need-slice-aggregate-write-all invariant-loop decreases-loop
-slice-aggregate-write-all c = omega arith
+slice_aggregate_write_all : tie.Need-slice-aggregate-write-all invariant_loop decreases_loop
+slice_aggregate_write_all c = omega arith
 
-write-all-requires-2 : tie.Need-write-all-requires-2 invariant-loop decreases-loop
-write-all-requires-2 c κs = tt
+write_all_requires_2 : tie.Need-write-all-requires-2 invariant_loop decreases_loop
+write_all_requires_2 c κs = tt
 
-print-decimal-requires : tie.Need-print-decimal-requires invariant-loop decreases-loop
-print-decimal-requires c κs = tt
+print_decimal_requires : tie.Need-print-decimal-requires invariant_loop decreases_loop
+print_decimal_requires c κs = tt
 
-slice-aggregate-print-count : tie.Need-slice-aggregate-print-count invariant-loop decreases-loop
-slice-aggregate-print-count c = omega arith
+slice_aggregate_print_count : tie.Need-slice-aggregate-print-count invariant_loop decreases_loop
+slice_aggregate_print_count c = omega arith
 
-sum-requires : tie.Need-sum-requires invariant-loop decreases-loop
-sum-requires c κs = tt
+sum_requires : tie.Need-sum-requires invariant_loop decreases_loop
+sum_requires c κs = tt
 
-entry-requires : tie.Need-entry-requires invariant-loop decreases-loop
-entry-requires c κs = tt
+entry_requires : tie.Need-entry-requires invariant_loop decreases_loop
+entry_requires c κs = tt
 
-print-count-requires : tie.Need-print-count-requires invariant-loop decreases-loop
-print-count-requires c κs = tt
+print_count_requires : tie.Need-print-count-requires invariant_loop decreases_loop
+print_count_requires c κs = tt
 
-add-number : tie.Need-overflow-add-number invariant-loop decreases-loop
-add-number c = omega arith
+add_number : tie.Need-overflow-add-number invariant_loop decreases_loop
+add_number c = omega arith
 
-loop-less : tie.Need-loop-smaller invariant-loop decreases-loop
-loop-less c = omega arith
+loop_less : tie.Need-loop-smaller invariant_loop decreases_loop
+loop_less c = omega arith
 
-loop-again : tie.Need-loop-preserved invariant-loop decreases-loop
-loop-again c = tt
+loop_again : tie.Need-loop-preserved invariant_loop decreases_loop
+loop_again c = tt
 
-returns : tie.Need-returns invariant-loop decreases-loop
+returns : tie.Need-returns invariant_loop decreases_loop
 returns c = tt
 
-pub print-answers-spec : {M : Type 1} → statement M
-print-answers-spec =
+pub print_answers_spec : {M : Type 1} → statement M
+print_answers_spec =
     tie.close
     (tie.spec
-    invariant-loop
-    decreases-loop
-    loop-holds
-    write-all-requires
-    slice-aggregate-write-all
-    write-all-requires-2
-    print-decimal-requires
-    slice-aggregate-print-count
-    sum-requires
-    entry-requires
-    print-count-requires
-    add-number
-    loop-less
-    loop-again
+    invariant_loop
+    decreases_loop
+    loop_holds
+    write_all_requires
+    slice_aggregate_write_all
+    write_all_requires_2
+    print_decimal_requires
+    slice_aggregate_print_count
+    sum_requires
+    entry_requires
+    print_count_requires
+    add_number
+    loop_less
+    loop_again
     returns)
