@@ -4,22 +4,24 @@ use Rattle.std.proofs.Math.Path.{sym, ap}
 use Rattle.std.proofs.Common.{◌∙◌, subst, arith}
 use Rattle.std.proofs.Math.Nat.{div-add-mod'}
 use Rattle.std.proofs.Math.IntN.{pos}
-use Rattle.alignment.specs.Rounding.{up_something}
+use Rattle.alignment.proofs.Rounding.{up_something}
 use Rattle.answer.specs.Answer.{done_with}
 use Rattle.words.specs.Words.{natural}
 use Rattle.words.specs.WordOrders.{within}
 use Rattle.request_table.specs.Buffers.{buffer_at}
 use Rattle.request_table.specs.Colliding.{Colliding}
-use Rattle.request_table.specs.GoodRows.{good_offset_lem}
+use Rattle.request_table.proofs.GoodRows.{good_offset_lem}
 use Rattle.request_table.specs.Limits.{greatest_space}
-use Rattle.request_table.specs.Needs.{need_same}
+use Rattle.request_table.proofs.Needs.{need_same}
 use Rattle.request_table.specs.Table.{rows, word, request, fixed_offset}
-use Rattle.request_table.specs.WellFormed.{passed_is_well_formed}
-use Rattle.greedy_rule.specs.Answers.{Done, done_says}
-use Rattle.greedy_rule.specs.DonePlans.{DonePlan, done_plan}
+use Rattle.request_table.proofs.WellFormed.{passed_is_well_formed}
+use Rattle.greedy_rule.proofs.Answers.{Done, done_says}
+use Rattle.greedy_rule.specs.DonePlans.{DonePlan}
+use Rattle.greedy_rule.proofs.DonePlans.{done_plan}
 use Rattle.greedy_rule.specs.Greedy.{greedy_plan}
 use Rattle.greedy_rule.specs.Plan.{greedy_need, plan_of, planned_table}
-use Rattle.inspection_rule.specs.ExactRule.{Acceptable, fixed_of, own_offset, accepted_exactly, accepted_needs}
+use Rattle.inspection_rule.specs.ExactRule.{Acceptable}
+use Rattle.inspection_rule.proofs.ExactRule.{fixed_of, own_offset, accepted_exactly, accepted_needs}
 use Rattle.inspection_rule.specs.Inspect.{proposed, proposed_need, inspect_of}
 
 module _ (g : ℕ) (t : List ℤ) (space : ℕ) (lent : List ℤ) (h : 0 < g) (e : (plan_of g t space (length lent)).number ≡ 0) where

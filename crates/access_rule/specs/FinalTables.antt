@@ -1,16 +1,9 @@
 -- Law: what a script that is done leaves: "Each answer byte is the byte read or written; the arena ends as the writes leave it, and bytes not written
 -- stay." That a refusal leaves all as lent is `refusal_keeps` (`Answers`) and, for bad touches, part of demand 3.
 use Rattle.std.specs.Prelude.{ℕ, ◌<◌, ◌≤◌, List, ◌≡◌, ℤ, length, get_or}
-use Rattle.std.proofs.Common.{sym, ◌∙◌, ap, arith}
-use Rattle.answer.specs.Answer.{number_of}
-use Rattle.bounded.specs.Replaced.{replaced_length, replaced_at, replaced_past}
+use Rattle.std.proofs.Common.{◌∙◌}
 use Rattle.access_rule.specs.Accesses.{count}
-use Rattle.access_rule.specs.Answers.{done_says, done_arena, done_bytes}
-use Rattle.access_rule.specs.Demand3.{Writes, falls_on, ScriptDone, falls, writes_of, write_says}
-use Rattle.access_rule.specs.Inside.{inside}
-use Rattle.access_rule.specs.LastWrites.{stands, untouched, write_answer}
-use Rattle.access_rule.specs.Run.{answer_byte}
-use Rattle.access_rule.specs.RunLaws.{arena_length}
+use Rattle.access_rule.specs.Demand3.{Writes, falls_on}
 use Rattle.access_rule.specs.Script.{final_arena, final_bytes}
 
 pub record Left (g : ℕ) (t : List ℤ) (space : ℕ) (o s : List ℤ) (arena bytes : List ℕ) : Type 0 where
@@ -24,30 +17,3 @@ pub record Left (g : ℕ) (t : List ℤ) (space : ℕ) (o s : List ℤ) (arena b
   pub written : (j v : ℕ) → j < count s → Writes s j v → ((i w : ℕ) → j < i → i < count s → Writes s i w → falls_on o s i ≡ falls_on o s j → ⊥)
       → get_or (final_arena g t space o s arena bytes) (falls_on o s j) 0 ≡ v
   pub unwritten : (x : ℕ) → ((i w : ℕ) → i < count s → Writes s i w → falls_on o s i ≡ x → ⊥) → get_or (final_arena g t space o s arena bytes) x 0 ≡ get_or arena x 0
-
-module _ (g : ℕ) (t : List ℤ) (space : ℕ) (o s : List ℤ) (arena bytes : List ℕ) (h : 0 < g) (d : ScriptDone g t space o s arena bytes) where
-  -- A script that is done leaves this.
-  pub left : Left g t space o s arena bytes
-  left =
-      let z = done_says t o s (length bytes) g space (length arena) (ap number_of d) in
-      let a = done_arena g t space o s arena bytes (ap number_of d) in
-      let b = done_bytes g t space o s arena bytes (ap number_of d) in
-      record {
-        arena_long = ap length a ∙ arena_length o s arena (count s);
-        bytes_long = ap length b ∙ replaced_length (answer_byte o s arena) (count s) bytes;
-        echoed = λ k v m w.
-            ap (λ (xs : List ℕ). get_or xs k 0) b
-            ∙ replaced_at (answer_byte o s arena) (count s) bytes 0 k m z.sized.roomy
-            ∙ write_answer o s arena k (writes_of s k v w).0
-            ∙ (writes_of s k v w).1;
-        rest = λ k m. ap (λ (xs : List ℕ). get_or xs k 0) b ∙ replaced_past (answer_byte o s arena) (count s) bytes 0 k m;
-        written = λ j v m w none.
-            ap (λ (xs : List ℕ). get_or xs (falls_on o s j) 0) a
-            ∙ stands o s arena (count s) j (falls_on o s j) m (writes_of s j v w).0 (falls o s j)
-            (omega (arith, falls o s j, inside g t space o s h z.accepted j (z.all_good j m), z.held_enough))
-            (λ i lo hi e q. none i _ lo hi (write_says t s i (z.all_good i hi) e) (sym (falls o s i) ∙ q))
-            ∙ (writes_of s j v w).1;
-        unwritten = λ x none.
-            ap (λ (xs : List ℕ). get_or xs x 0) a
-            ∙ untouched o s arena (count s) x (λ i hi e q. none i _ hi (write_says t s i (z.all_good i hi) e) (sym (falls o s i) ∙ q));
-      }

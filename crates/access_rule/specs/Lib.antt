@@ -2,12 +2,9 @@ pub mod Accesses
 pub mod Run
 pub mod Script
 pub mod GoodAccesses
-pub mod Inside
-pub mod RunLaws
 pub mod Answers
 pub mod Ready
 pub mod GoodScripts
-pub mod LastWrites
 pub mod OneHolder
 pub mod Demand3
 pub mod FinalTables

@@ -7,12 +7,13 @@ use native.Mathlib.Omega.{arith}
 use borrow.Author.Tests.{leb-true}
 use lib.IntN.{ℤ}
 use lib.ListN.{length, set}
-use Rattle.bounded.specs.Replaced.{replaced, replaced_none, replaced_more, replaced_length}
+use Rattle.bounded.specs.Replaced.{replaced}
+use Rattle.bounded.proofs.Replaced.{replaced_none, replaced_more, replaced_length}
 use Rattle.inspection_rule.specs.Inspect.{proposed}
 use Rattle.access_rule.specs.Accesses.{count, access, allowed}
 use Rattle.access_rule.specs.Ready.{Ready}
 use Rattle.access_rule.specs.Run.{byte_of, arena_by, byte_by, arena_after, answer_byte}
-use Rattle.access_rule.specs.RunLaws.{arena_none, arena_more, arena_length}
+use Rattle.access_rule.proofs.RunLaws.{arena_none, arena_more, arena_length}
 use Rattle.access_rule.specs.declared.Access.{Access}
 
 -- The place that the code works out is the touch's byte.

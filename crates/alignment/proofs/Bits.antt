@@ -2,9 +2,11 @@
 use Rattle.std.proofs.Common.{◌≡◌, ℕ, zero, suc, ◌-◌, ◌*◌, ◌/◌, ◌%◌, ◌^◌, ◌<◌, ◌≤◌, Bool, true, false, ◌&&◌, eqb, leb, ◌⊎◌, refl, ap, inl, inr, arith, eq-eqb, eqb-true}
 use native.Mathlib.Nat.{mod_self, two-pow-succ}
 use lib.Bits.{bit_and, and_step, and_self, and_mask}
-use Rattle.alignment.specs.Alignments.{allowed, allowed_says, allowed_some}
-use Rattle.alignment.specs.Powers.{PowerOfTwo, power_says, power_of}
-use Rattle.bounded.specs.Boolean.{lt_or_le, same_test}
+use Rattle.alignment.specs.Alignments.{allowed}
+use Rattle.alignment.proofs.Alignments.{allowed_says, allowed_some}
+use Rattle.alignment.specs.Powers.{PowerOfTwo}
+use Rattle.alignment.proofs.Powers.{power_says, power_of}
+use Rattle.bounded.proofs.Boolean.{lt_or_le, same_test}
 
 no_shared_bit : (n : ℕ) → PowerOfTwo n → bit_and n (n - 1) ≡ 0
 no_shared_bit n p = rw p.is (rw (and_mask (2 ^ p.exponent) p.exponent) (mod_self (2 ^ p.exponent)))

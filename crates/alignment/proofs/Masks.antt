@@ -3,9 +3,11 @@ use Rattle.std.proofs.Common.{◌≡◌, ℕ, ◌+◌, ◌-◌, ◌*◌, ◌/◌
 use native.Mathlib.Nat.{add-mul-mod_self_right}
 use lib.Bits.{bit_and, and_high, and_mask}
 use lib.Pow.{recompose, mod-pow-add}
-use Rattle.alignment.specs.Alignments.{loss, loss_reaches, loss_least}
-use Rattle.alignment.specs.Rounding.{rounded_up, rounded_down, multiples_apart}
-use Rattle.bounded.specs.Boolean.{lt_or_le}
+use Rattle.alignment.specs.Alignments.{loss}
+use Rattle.alignment.proofs.Alignments.{loss_reaches, loss_least}
+use Rattle.alignment.specs.Rounding.{rounded_up, rounded_down}
+use Rattle.alignment.proofs.Rounding.{multiples_apart}
+use Rattle.bounded.proofs.Boolean.{lt_or_le}
 
 -- A number of j + k bits, rounded down: without the lowest k.
 pub down_by_bits : (j k n : ℕ) → n < 2 ^ (j + k) → bit_and n (2 ^ (j + k) - 2 ^ k) ≡ rounded_down (2 ^ k) n

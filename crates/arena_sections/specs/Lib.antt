@@ -1,9 +1,7 @@
 pub mod Sections
 pub mod Ordered
-pub mod Room
 pub mod History
 pub mod Effects
-pub mod OperationEffects
 pub mod SoundHistory
 pub mod Cases
 pub mod Outcomes

@@ -1,19 +1,7 @@
 // The head, temporary and tail section of one arena (document 01, "Three sections in one arena"). The state goes in by value and the next state comes
 // back beside the answer. Any state may be handed in: one that is not valid is refused by number 13, and a refusal hands the same state back.
 ghost use Rattle.std.specs.Prelude.{◌≡◌};
-ghost use Rattle.arena_sections.specs.Sections.{
-  base_alignment,
-  fresh as freshState,
-  valid,
-  refused_outcome,
-  done_outcome,
-  open_of,
-  allocation_of,
-  persistent_of,
-  temp_of,
-  reset_of,
-  head_of,
-};
+ghost use Rattle.arena_sections.specs.Sections.{base_alignment, fresh as freshState, valid, refused_outcome, done_outcome, open_of, allocation_of, persistent_of, temp_of, reset_of, head_of, };
 
 use answer::Answer;
 

@@ -1,4 +1,3 @@
-pub mod Boolean
 pub mod First
 pub mod Last
 pub mod Pair
@@ -9,7 +8,5 @@ pub mod TwoEach
 pub mod Causes
 pub mod Listed
 pub mod Count
-pub mod Sums
 pub mod InOrder
 pub mod Entries
-pub mod Front

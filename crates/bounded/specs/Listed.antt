@@ -2,35 +2,10 @@
 --     list_from at k m    at k, at (k + 1) .. at (k + m - 1)
 -- A reader believes it by `from_length` and `from_at`. What replaced the first entries of a list is such a list: `replaced_front`.
 use Prim.Native.Nat.{ℕ, zero, suc, ◌+◌, ◌<◌, ◌≤◌}
-use Rattle.std.specs.Prelude.{List, [], ◌∷◌, ◌≡◌, length, get_or, take}
-use Rattle.std.proofs.Math.Path.{refl, ap}
-use Rattle.std.proofs.Common.{sym, ◌∙◌, arith, length-take-le, get_or-take, ext_get_or}
-use Rattle.bounded.specs.Replaced.{replaced, replaced_length, replaced_at}
+use Rattle.std.specs.Prelude.{List, [], ◌∷◌, ◌≡◌}
+use Rattle.std.proofs.Common.{◌∙◌}
 
 -- The entries number k to k + m - 1 of a table that is a function of the index.
 unfoldable pub list_from : {A : Type 0} → (ℕ → A) → ℕ → ℕ → List A
 list_from at k zero = []
 list_from at k (suc m) = at k ∷ list_from at (suc k) m
-
-module _ {A : Type 0} where
-  -- It has as many entries as were asked for.
-  pub from_length : (at : ℕ → A) (k m : ℕ) → length (list_from at k m) ≡ m
-  unfolding list_from
-  from_length at k zero = refl
-  from_length at k (suc m) = ap suc (from_length at (suc k) m)
-
-  -- Its entries are the function's.
-  pub from_at : (at : ℕ → A) (k m i : ℕ) (d : A) → i < m → get_or (list_from at k m) i d ≡ at (k + i)
-  unfolding list_from
-  from_at at k zero i d h = absurd (omega arith)
-  from_at at k (suc m) zero d h = ap at (omega arith)
-  from_at at k (suc m) (suc i) d h = from_at at (suc k) m i d (omega arith) ∙ ap at (omega arith)
-
-  -- The first entries of a list, once they are replaced.
-  pub replaced_front : (at : ℕ → A) (n : ℕ) (xs : List A) → A → n ≤ length xs → take n (replaced at n xs) ≡ list_from at 0 n
-  replaced_front at n xs d l =
-      let long : length (take n (replaced at n xs)) ≡ n = length-take-le n (replaced at n xs) (omega (arith, replaced_length at n xs)) in
-      ext_get_or d (take n (replaced at n xs)) (list_from at 0 n) (long ∙ sym (from_length at 0 n))
-      (λ i h.
-      let k : i < n = omega (arith, long) in
-      get_or-take n (replaced at n xs) i d k ∙ replaced_at at n xs d i k l ∙ ap at (omega arith) ∙ sym (from_at at 0 n i d k))

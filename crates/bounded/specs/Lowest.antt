@@ -1,11 +1,6 @@
 -- What a search names, in plain terms: the lowest index of which something is so, and the least pair. "So" is any statement about indices; the test
 -- that is searched decides it. `lowest_of` and `least_of` turn what a search found into these; nothing here mentions how it was found.
-use Rattle.std.specs.Prelude.{ℕ, ◌<◌, ◌≤◌, Bool, true, ◌⊎◌, ◌≡◌}
-use Rattle.std.proofs.Common.{inl, inr, arith}
-use Rattle.bounded.specs.Boolean.{contrary, lt_or_le}
-use Rattle.bounded.specs.First.{first_in, holds_below, first_is, found}
-use Rattle.bounded.specs.Last.{last_in, last_is}
-use Rattle.bounded.specs.Pair.{pair_below, pair_first, pair_second, least_pair}
+use Rattle.std.specs.Prelude.{ℕ, ◌<◌, ◌≤◌, ◌⊎◌, ◌≡◌}
 
 -- Index a is below n, it is so there, and at no lower index.
 pub record Lowest (So : ℕ → Type 0) (n a : ℕ) : Type 0 where
@@ -24,37 +19,3 @@ pub record LeastPair (So : ℕ → ℕ → Type 0) (a b : ℕ) : Type 0 where
   pub here : So a b
   pub first_least : (i j : ℕ) → So i j → a ≤ i
   pub second_least : (j : ℕ) → So a j → b ≤ j
-
--- What the search found is the lowest of which the test's meaning is so.
-pub lowest_of : {So : ℕ → Type 0} (p : ℕ → Bool) (n : ℕ) → ((k : ℕ) → k < n → p k ≡ true → So k) → ((k : ℕ) → k < n → So k → p k ≡ true)
-    → holds_below p n ≡ true → Lowest So n (first_in p 0 n)
-lowest_of p n says of e =
-    let x = found p n e in
-    record {
-      within = x.0;
-      here = says _ x.0 x.1;
-      below = λ k l s. contrary (of k (omega (arith, x.0)) s) ((first_is p 0 n (omega arith)).before k (omega arith) l);
-    }
-
--- Where it is so of some index, the last index that passes is the highest of which it is so.
-pub highest_of : {So : ℕ → Type 0} (p : ℕ → Bool) (n : ℕ) → ((k : ℕ) → p k ≡ true → So k) → ((k : ℕ) → So k → p k ≡ true) → holds_below p n ≡ true
-    → Highest So n (last_in p n)
-highest_of p n says of e =
-    let x = found p n e in
-    let l = last_is p n _ x.0 x.1 in
-    record { within = l.within; here = says _ l.passes; above = λ k h m s. contrary (of k s) (l.after k h m) }
-
--- The pair that the search found is the least of which the test's meaning is so.
-pub least_of : {So : ℕ → ℕ → Type 0} (c : ℕ → ℕ → Bool) (n : ℕ) → ((a b : ℕ) → a < b → b < n → c a b ≡ true → So a b)
-    → ((a b : ℕ) → So a b → (a < b) × (b < n) × (c a b ≡ true)) → pair_below c n ≡ true → LeastPair So (pair_first c n) (pair_second c n)
-least_of c n says of e =
-    let p = least_pair c n e in
-    record {
-      here = says _ _ p.rising p.within p.passes;
-      first_least = λ i j s. let x = of i j s in not_lower (lt_or_le i _) (λ l. contrary x.2 (p.first_least i j l x.0 x.1));
-      second_least = λ j s. let x = of _ j s in not_lower (lt_or_le j _) (λ l. contrary x.2 (p.second_least j x.0 l));
-    }
-  where
-    not_lower : {i a : ℕ} → (i < a) ⊎ (a ≤ i) → (i < a → ⊥) → a ≤ i
-    not_lower (inl l) f = absurd (f l)
-    not_lower (inr l) f = l

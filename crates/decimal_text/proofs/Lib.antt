@@ -1,1 +1,6 @@
 pub mod Below
+pub mod Decimals
+pub mod DigitByDigit
+pub mod SpelledCases
+pub mod SpelledExamples
+pub mod SpelledNumbers

@@ -4,10 +4,10 @@ use mathlib.Core.List.{List}
 use mathlib.Core.Path.{◌≡◌, sym, ◌∙◌, ap}
 use lib.IntN.{ℤ, pos}
 use lib.ListN.{length}
-use Rattle.bounded.specs.Replaced.{replaced_same}
+use Rattle.bounded.proofs.Replaced.{replaced_same}
 use Rattle.units.specs.declared.Offset.{Offset}
 use Rattle.request_table.specs.Table.{rows}
-use Rattle.greedy_rule.specs.DonePlans.{done_table}
+use Rattle.greedy_rule.proofs.DonePlans.{done_table}
 use Rattle.greedy_rule.specs.Greedy.{greedy_plan}
 use Rattle.greedy_rule.specs.Plan.{plan_of, planned_table}
 use Rattle.greedy_planner.specs.Arrays.{offset_in, HoldsPlan, stored_table}

@@ -1,12 +1,6 @@
 pub mod Greedy
 pub mod Plan
 pub mod GreedyOrder
-pub mod PlanByPosition
-pub mod LowestPlace
-pub mod NoCollision
-pub mod EmptyRows
 pub mod Answers
-pub mod PlanFits
 pub mod DonePlans
 pub mod Demand2
-pub mod OnGrid

@@ -1,5 +1,4 @@
 pub mod Inspect
 pub mod Answers
-pub mod FirstEntries
 pub mod ExactRule
 pub mod Outcomes

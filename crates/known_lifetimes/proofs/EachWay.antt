@@ -5,7 +5,7 @@ use mathlib.Core.Path.{◌≡◌, refl}
 use native.Mathlib.Omega.{arith}
 use borrow.Author.Tests.{ltb-true, ltb-false, eq-eqb, ne_eqb}
 use lib.Dec.{ltb, eqb}
-use Rattle.bounded.specs.Boolean.{both, neither}
+use Rattle.bounded.proofs.Boolean.{both, neither}
 use Rattle.lifetime_rule.specs.Uses.{writes, model_input, model_output, greatest_operators}
 use Rattle.lifetime_rule.specs.declared.Use.{Use}
 use Rattle.known_lifetimes.specs.OneUseMore.{readable_with, says_nothing, lifetime_with}

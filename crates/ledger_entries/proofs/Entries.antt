@@ -5,7 +5,7 @@ use mathlib.Core.List.{[], sum}
 use mathlib.Core.Path.{◌≡◌, refl, ◌∙◌, ap}
 use borrow.Author.Tests.{lt-ltb, le-ltb}
 use lib.ListN.{length, take}
-use Rattle.bounded.specs.Sums.{sum_more}
+use Rattle.bounded.proofs.Sums.{sum_more}
 use Rattle.recording_rule.specs.Ledger.{nothing_recorded, of_kind, used_bytes, total_used, passes_used}
 use Rattle.recording_rule.specs.declared.Ledger.{Ledger}
 use Rattle.recording_rule.specs.declared.RecordedAllocation.{RecordedAllocation}

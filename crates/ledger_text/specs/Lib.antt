@@ -1,3 +1,2 @@
 pub mod LedgerText
-pub mod LedgerExample
 pub mod LedgerLengths

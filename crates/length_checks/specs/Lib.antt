@@ -1,2 +1,1 @@
 pub mod LengthChecks
-pub mod LengthAnswers

@@ -5,5 +5,4 @@ pub mod Answers
 pub mod GoodUses
 pub mod Naming
 pub mod SoundLifetimes
-pub mod Outcomes
 pub mod OnlyOutputs

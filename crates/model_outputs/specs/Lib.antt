@@ -1,2 +1,1 @@
 pub mod OutputsRead
-pub mod OutputsExample

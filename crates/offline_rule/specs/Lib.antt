@@ -2,4 +2,3 @@ pub mod OfflinePlan
 pub mod Answers
 pub mod FinalTables
 pub mod RoundTrips
-pub mod Outcomes

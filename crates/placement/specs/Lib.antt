@@ -3,4 +3,3 @@ pub mod Walk
 pub mod Put
 pub mod LowestFree
 pub mod WalkReachesLowest
-pub mod EmptyRows

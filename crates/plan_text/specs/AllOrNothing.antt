@@ -1,9 +1,10 @@
 -- A text is written whole or not at all: what the definitions of the written bytes say in each of the two cases.
 use Rattle.std.specs.Prelude.{ℕ, ◌≤◌, Bool, true, false, List, ◌≡◌, refl, leb, length}
 use Rattle.std.proofs.Common.{arith, leb-true}
-use Rattle.bounded.specs.Boolean.{both}
+use Rattle.bounded.proofs.Boolean.{both}
 use Rattle.request_table.specs.Limits.{greatest_rows}
-use Rattle.text_pieces.specs.Put.{Put, Room, put_at_start}
+use Rattle.text_pieces.specs.Put.{Put, Room}
+use Rattle.text_pieces.proofs.Put.{put_at_start}
 use Rattle.text_rule.specs.Text.{greatest_text}
 use Rattle.plan_text.specs.Written.{has_room, written_length, written_into}
 

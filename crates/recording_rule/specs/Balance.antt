@@ -1,54 +1,9 @@
 -- Laws of the ledger: a balanced one in plain terms, and what one keep more changes.
-use Rattle.std.specs.Prelude.{ℕ, ◌+◌, ◌<◌, ◌≤◌, true, not, ◌≡◌, eqb, length}
-use Rattle.std.proofs.Common.{arith, get_or-set_same, get_or-set_other}
-use borrow.Author.Tests.{eqb-true, eq-eqb, le-ltb, ltb-false, not-true}
-use Rattle.bounded.specs.Boolean.{both, both_hold}
-use Rattle.bounded.specs.First.{holds_below, none_holds, none_found}
-use Rattle.bounded.specs.Sums.{sum_set, entry_within}
-use Rattle.recording_rule.specs.Ledger.{kind_count, nothing_recorded, of_kind, used_bytes, total_used, passes_used, balanced, with_keep, with_keep_of}
+use Rattle.std.specs.Prelude.{ℕ, ◌+◌, ◌<◌, ◌≤◌, ◌≡◌}
+use Rattle.recording_rule.specs.Ledger.{kind_count, of_kind, total_used}
 use Rattle.recording_rule.specs.declared.Ledger.{Ledger}
 
 -- A balanced ledger: the kinds' used bytes add up to what the tail has taken, and no kind's requested bytes pass its used bytes.
 pub record Balanced (l : Ledger) (taken : ℕ) : Type 0 where
   pub total : total_used l.kinds ≡ taken
   pub within : (kind : ℕ) → kind < kind_count → (of_kind l kind).requested ≤ (of_kind l kind).used
-
-module _ (l : Ledger) (taken : ℕ) where
-  -- What the test says,
-  pub balanced_says : balanced l taken ≡ true → Balanced l taken
-  unfolding balanced
-  balanced_says e =
-      let x = both (eqb (total_used l.kinds) taken) (not (holds_below (passes_used l) kind_count)) e in
-      record {
-        total = eqb-true _ _ x.0;
-        within = λ kind h. ltb-false _ _ (none_holds (passes_used l) kind_count (not-true _ x.1) kind h);
-      }
-
-  -- and the other way.
-  pub balanced_of : Balanced l taken → balanced l taken ≡ true
-  unfolding balanced
-  balanced_of b =
-      both_hold _ _
-      (eq-eqb _ _ b.total)
-      (rw (none_found (passes_used l) kind_count (λ kind h. le-ltb _ _ (b.within kind h))))
-
--- No kind has more used bytes than all.
-pub used_within : (l : Ledger) (kind : ℕ) → kind < length l.kinds → (of_kind l kind).used ≤ total_used l.kinds
-unfolding total_used
-used_within l kind h = entry_within used_bytes nothing_recorded l.kinds kind h
-
--- ---- one keep more
-
-module _ (l : Ledger) (kind size gap : ℕ) (h : kind < length l.kinds) where
-  -- The total grows by its size and gap.
-  pub total_with : total_used (with_keep_of l kind size gap).kinds ≡ total_used l.kinds + (size + gap)
-  unfolding total_used
-  total_with = omega (arith, sum_set used_bytes nothing_recorded l.kinds kind (with_keep (of_kind l kind) size gap) h)
-
-  -- It is recorded of its kind,
-  pub with_same : of_kind (with_keep_of l kind size gap) kind ≡ with_keep (of_kind l kind) size gap
-  with_same = get_or-set_same l.kinds kind (with_keep (of_kind l kind) size gap) nothing_recorded h
-
-  -- and of no other.
-  pub with_other : (other : ℕ) → (other ≡ kind → ⊥) → of_kind (with_keep_of l kind size gap) other ≡ of_kind l other
-  with_other other n = get_or-set_other l.kinds kind other (with_keep (of_kind l kind) size gap) nothing_recorded n

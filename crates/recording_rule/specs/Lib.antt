@@ -5,4 +5,3 @@ pub mod Recording
 pub mod RecordedHistory
 pub mod Cases
 pub mod SoundLedger
-pub mod Outcomes

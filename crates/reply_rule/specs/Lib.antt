@@ -1,4 +1,1 @@
 pub mod Reply
-pub mod Replies
-pub mod Outcomes
-pub mod SheetA

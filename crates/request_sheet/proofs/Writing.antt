@@ -5,7 +5,7 @@ use mathlib.Core.List.{List}
 use mathlib.Core.Path.{◌≡◌, ◌∙◌}
 use borrow.Author.Tests.{le-leb}
 use lib.Dec.{leb}
-use Rattle.bounded.specs.Boolean.{both_hold}
+use Rattle.bounded.proofs.Boolean.{both_hold}
 use Rattle.plan_text.specs.Written.{has_room, written_length, written_into}
 use Rattle.text_pieces.specs.Replied.{Stands}
 use Rattle.request_table.specs.Limits.{greatest_rows}

@@ -8,4 +8,3 @@ pub mod Colliding
 pub mod CollidingWords
 pub mod Needs
 pub mod WellFormed
-pub mod CheckOutcomes

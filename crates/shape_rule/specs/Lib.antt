@@ -2,5 +2,3 @@ pub mod ShapeTable
 pub mod Sized
 pub mod ShapeAnswers
 pub mod ShapeOutcomes
-pub mod SizedRows
-pub mod PastIgnored

@@ -1,4 +1,3 @@
 pub mod Sheet
 pub mod GoodSheets
-pub mod ReadSheets
 pub mod SheetExamples

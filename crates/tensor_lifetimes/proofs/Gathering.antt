@@ -7,9 +7,9 @@ use native.Mathlib.Omega.{arith}
 use lib.IntN.{ℤ}
 use lib.ListN.{length, set, replicate, length-set, length-replicate, get_or-replicate}
 use lib.Seq.{get_or-set_same, get_or-set_other}
-use Rattle.bounded.specs.Boolean.{same_or_not}
-use Rattle.bounded.specs.First.{first_none, holds_none}
-use Rattle.lifetime_rule.specs.GoodUses.{tests}
+use Rattle.bounded.proofs.Boolean.{same_or_not}
+use Rattle.bounded.proofs.First.{first_none, holds_none}
+use Rattle.lifetime_rule.proofs.GoodUses.{tests}
 use Rattle.lifetime_rule.specs.Uses.{greatest_operators, greatest_tensors, count, use_at}
 use Rattle.lifetime_rule.specs.declared.Use.{Use}
 use Rattle.tensor_lifetimes.specs.Gathered.{named_so_far, output_so_far, readable_so_far, lifetime_so_far, no_lifetime, lifetime_in, GoodList, HoldsLifetimes}

@@ -8,12 +8,14 @@ use native.Mathlib.Omega.{arith}
 use borrow.Author.Tests.{not-false, ltb-true, lt-ltb, le-ltb, le-leb, lt-leb}
 use lib.Dec.{leb, ltb, eqb}
 use lib.IntN.{ℤ, pos}
-use Rattle.bounded.specs.Boolean.{both, both_hold, either, lt_or_le}
-use Rattle.bounded.specs.First.{first_in, holds_below, first_is, first_same, found, some_found}
-use Rattle.bounded.specs.Replaced.{replaced, replaced_same}
-use Rattle.bounded.specs.TwoEach.{two_same}
+use Rattle.bounded.proofs.Boolean.{both, both_hold, either, lt_or_le}
+use Rattle.bounded.specs.First.{first_in, holds_below}
+use Rattle.bounded.proofs.First.{first_is, first_same, found, some_found}
+use Rattle.bounded.specs.Replaced.{replaced}
+use Rattle.bounded.proofs.Replaced.{replaced_same}
+use Rattle.bounded.proofs.TwoEach.{two_same}
 use Rattle.lifetime_rule.specs.Answers.{EachGood}
-use Rattle.lifetime_rule.specs.GoodUses.{tests}
+use Rattle.lifetime_rule.proofs.GoodUses.{tests}
 use Rattle.lifetime_rule.specs.Lifetimes.{named, is_output, first_of, last_of, unnamed, lets, readable, too_early, lifetime_word}
 use Rattle.lifetime_rule.specs.Uses.{reads, writes, model_input, greatest_operators, greatest_tensors, count, use_at, good}
 use Rattle.lifetime_rule.specs.declared.Use.{Use}

@@ -6,7 +6,8 @@ use mathlib.Core.Path.{◌≡◌, refl, ◌∙◌}
 use native.Mathlib.Omega.{arith}
 use borrow.Author.Tests.{eq-eqb, ne_eqb}
 use lib.Dec.{eqb}
-use Rattle.bounded.specs.Last.{last_in, last_before_end, before_end, end_bound, end_after, end_none, end_same, end_either}
+use Rattle.bounded.specs.Last.{last_in}
+use Rattle.bounded.proofs.Last.{last_before_end, before_end, end_bound, end_after, end_none, end_same, end_either}
 use Rattle.tensor_lifetimes.specs.Gathered.{end_by}
 
 -- It is no greater than the number of operators.

@@ -8,9 +8,11 @@ use native.Mathlib.Omega.{arith}
 use borrow.Author.Tests.{lt-ltb, le-ltb, eq-eqb, ne_eqb}
 use lib.Dec.{ltb, eqb}
 use lib.IntN.{ℤ}
-use Rattle.bounded.specs.Boolean.{neither_holds}
-use Rattle.bounded.specs.First.{first_in, first_is, one_first, first_none, first_same, first_either, holds_more}
-use Rattle.lifetime_rule.specs.GoodUses.{Role, reading, writing, input, output, role_of, Tests, tests}
+use Rattle.bounded.proofs.Boolean.{neither_holds}
+use Rattle.bounded.specs.First.{first_in}
+use Rattle.bounded.proofs.First.{first_is, one_first, first_none, first_same, first_either, holds_more}
+use Rattle.lifetime_rule.specs.GoodUses.{Role, reading, writing, input, output, Tests}
+use Rattle.lifetime_rule.proofs.GoodUses.{role_of, tests}
 use Rattle.lifetime_rule.specs.Lifetimes.{names, gives_out, lets}
 use Rattle.lifetime_rule.specs.Uses.{reads, writes, model_input, model_output, greatest_operators, use_at, good}
 use Rattle.lifetime_rule.specs.declared.Use.{Use}

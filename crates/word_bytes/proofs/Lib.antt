@@ -1,1 +1,3 @@
 pub mod Turned
+pub mod BytesComeBack
+pub mod BytesExamples

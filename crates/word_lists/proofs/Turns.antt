@@ -7,10 +7,11 @@ use native.Mathlib.Omega.{arith}
 use lib.IntN.{ℤ, pos}
 use lib.ListN.{length, get_or, drop, drop_of_length-le}
 use lib.Seq.{drop-cons, ext_get_or}
-use Rattle.bounded.specs.Replaced.{replaced, replaced_length, replaced_at}
+use Rattle.bounded.specs.Replaced.{replaced}
+use Rattle.bounded.proofs.Replaced.{replaced_length, replaced_at}
 use Rattle.word_bytes.specs.Bytes.{word_of, with_word}
 use Rattle.word_lists.specs.WordLists.{words_from, with_words}
-use Rattle.word_lists.specs.WordsComeBack.{words_length, words_at}
+use Rattle.word_lists.proofs.WordsComeBack.{words_length, words_at}
 
 -- Every entry is a word of the bytes: these are the words.
 pub all_read : (bytes : List ℕ) (table : List ℤ) {n : ℕ} → n ≡ length table → replaced (λ k. word_of bytes (k * 4)) n table ≡ words_from bytes 0 (length table)

@@ -3,7 +3,8 @@ use mathlib.Core.Path.{◌≡◌, sym, ◌∙◌, ap}
 use native.Mathlib.Omega.{arith}
 use borrow.Author.Rules.{rules}
 use Rattle.answer.specs.Answer.{number_of}
-use Rattle.access_rule.specs.Answers.{Sized, lengths_passed, lengths_stand, inspection_stands, touches_decide, touches_done}
+use Rattle.access_rule.specs.Answers.{Sized}
+use Rattle.access_rule.proofs.Answers.{lengths_passed, lengths_stand, inspection_stands, touches_decide, touches_done}
 use Rattle.access_script.proofs.judge.Statement.{statement}
 use Rattle.access_script.proofs.judge.Tie as tie
 

@@ -4,9 +4,9 @@ use mathlib.Core.Path.{◌∙◌}
 use native.Mathlib.Omega.{arith}
 use borrow.Author.Tests.{ltb-true, ltb-false}
 use borrow.Author.Rules.{rules}
-use Rattle.bounded.specs.First.{first_is}
+use Rattle.bounded.proofs.First.{first_is}
 use Rattle.access_rule.specs.Accesses.{count, bad_access}
-use Rattle.access_rule.specs.Answers.{arena_refused, touch_refused, touches_passed}
+use Rattle.access_rule.proofs.Answers.{arena_refused, touch_refused, touches_passed}
 use Rattle.access_script.proofs.judge_accesses.Statement.{statement}
 use Rattle.access_script.proofs.judge_accesses.Tie as tie
 

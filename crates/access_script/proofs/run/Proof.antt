@@ -5,8 +5,8 @@ use borrow.Author.Rules.{rules}
 use lib.ListN.{length}
 use Rattle.answer.specs.Answer.{number_of}
 use Rattle.request_table.specs.Limits.{grid}
-use Rattle.access_rule.specs.Answers.{done_says, done_arena, done_bytes, refusal_keeps}
-use Rattle.access_rule.specs.Ready.{ready}
+use Rattle.access_rule.proofs.Answers.{done_says, done_arena, done_bytes, refusal_keeps}
+use Rattle.access_rule.proofs.Ready.{ready}
 use Rattle.access_rule.specs.Script.{script_of}
 use Rattle.access_script.proofs.run.Statement.{statement}
 use Rattle.access_script.proofs.run.Tie as tie

@@ -5,7 +5,7 @@ use native.Mathlib.Omega.{arith}
 use borrow.Author.Rules.{rules}
 use lib.ListN.{get_or, set}
 use Rattle.access_rule.specs.Run.{byte_of}
-use Rattle.access_rule.specs.RunLaws.{read_leaves, read_answers, write_sets, write_answers}
+use Rattle.access_rule.proofs.RunLaws.{read_leaves, read_answers, write_sets, write_answers}
 use Rattle.access_script.proofs.Performing.{byte_is, value_is_byte}
 use Rattle.access_script.proofs.touch.Statement.{statement}
 use Rattle.access_script.proofs.touch.Tie as tie

@@ -3,7 +3,8 @@ use Prim.Native.Nat.{◌-◌}
 use mathlib.Core.Bool.{not}
 use mathlib.Core.Path.{◌≡◌, refl, sym, ◌∙◌, ap}
 use native.Mathlib.Omega.{arith}
-use Rattle.bounded.specs.First.{Scan, scan, pass, hit, out}
+use Rattle.bounded.specs.First.{Scan}
+use Rattle.bounded.proofs.First.{scan, pass, hit, out}
 use Rattle.access_rule.specs.Accesses.{moment_before, bad_access}
 use Rattle.accesses.proofs.Judging.{good_is, moment_after}
 use Rattle.accesses.proofs.lowest_bad.Statement.{statement}

@@ -1,6 +1,6 @@
 -- `arena_recording::allocate_persistent` meets its contract.
 use borrow.Author.Rules.{rules}
-use Rattle.recording_rule.specs.Cases.{hands_back, goes_down, recordable, hands_on}
+use Rattle.recording_rule.proofs.Cases.{hands_back, goes_down, recordable, hands_on}
 use Rattle.ledger_entries.proofs.SixKinds.{six_kinds}
 use Rattle.arena_recording.proofs.allocate_persistent.Statement.{statement}
 use Rattle.arena_recording.proofs.allocate_persistent.Tie as tie

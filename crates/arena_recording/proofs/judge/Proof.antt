@@ -6,9 +6,9 @@ use native.Mathlib.Omega.{arith}
 use borrow.Author.Rules.{rules}
 use borrow.Author.Tests.{eqb-true, eqb-false, leb-true, leb-false, not-true, not-false}
 use Rattle.alignment.specs.Alignments.{allowed}
-use Rattle.arena_sections.specs.Ordered.{valid_says}
+use Rattle.arena_sections.proofs.Ordered.{valid_says}
 use Rattle.arena_sections.specs.Sections.{base_alignment, valid}
-use Rattle.recording_rule.specs.Cases.{told_valid, told_allowed, told_not_allowed, told_not_valid, by_ledger, by_alignment, by_kind, by_count, by_sections}
+use Rattle.recording_rule.proofs.Cases.{told_valid, told_allowed, told_not_allowed, told_not_valid, by_ledger, by_alignment, by_kind, by_count, by_sections}
 use Rattle.recording_rule.specs.Ledger.{kind_count, greatest_count, balanced}
 use Rattle.recording_rule.specs.declared.RecordedAllocation.{RecordedAllocation}
 use Rattle.arena_recording.proofs.judge.Statement.{statement}

@@ -3,7 +3,7 @@ use Prim.Native.Nat.{◌+◌, ◌-◌}
 use mathlib.Core.Path.{sym}
 use native.Mathlib.Omega.{arith}
 use borrow.Author.Tests.{ltb-true, lt-ltb}
-use Rattle.bounded.specs.Boolean.{same_test}
+use Rattle.bounded.proofs.Boolean.{same_test}
 use Rattle.buffers.proofs.ends_after.Statement.{statement}
 use Rattle.buffers.proofs.ends_after.Tie as tie
 

@@ -1,7 +1,7 @@
 -- `decimal_text::above_zero` meets its contract.
 use Rattle.std.proofs.Common.{◌^◌, ◌<◌, sym, ◌∙◌, arith, w32, rules}
 use mir.Facts.{to_z_pos}
-use Rattle.decimal_text.specs.SpelledCases.{above_held, above_not_held}
+use Rattle.decimal_text.proofs.SpelledCases.{above_held, above_not_held}
 use Rattle.decimal_text.proofs.above_zero.Statement.{statement}
 use Rattle.decimal_text.proofs.above_zero.Tie as tie
 

@@ -3,7 +3,7 @@ use Rattle.std.proofs.Common.{◌-◌, ◌^◌, ◌<◌, pos, sym, ◌∙◌, ar
 use mir.Facts.{to_z_pos}
 use Rattle.word_bytes.proofs.Turned.{fits}
 use Rattle.decimal_text.specs.Spelled.{below}
-use Rattle.decimal_text.specs.SpelledCases.{below_some, below_held, below_not_held}
+use Rattle.decimal_text.proofs.SpelledCases.{below_some, below_held, below_not_held}
 use Rattle.decimal_text.proofs.Below.{below_held_whole}
 use Rattle.decimal_text.proofs.below_zero.Statement.{statement}
 use Rattle.decimal_text.proofs.below_zero.Tie as tie

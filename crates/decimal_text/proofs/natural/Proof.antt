@@ -1,6 +1,7 @@
 -- `decimal_text::natural` meets its contract: the digits that are left, read after the number so far, give the number of the whole text.
 use Rattle.std.proofs.Common.{◌≡◌, ◌-◌, length, drop, refl, ◌∙◌, arith}
-use Rattle.decimal_text.specs.DigitByDigit.{with_digits, spelled, empty_spells_none, one_read, all_read}
+use Rattle.decimal_text.specs.DigitByDigit.{with_digits}
+use Rattle.decimal_text.proofs.DigitByDigit.{spelled, empty_spells_none, one_read, all_read}
 use Rattle.decimal_text.proofs.natural.Statement.{statement}
 use Rattle.decimal_text.proofs.natural.Tie as tie
 

@@ -1,7 +1,7 @@
 -- `decimal_text::signed` meets its contract: by the first code. The part behind it is all that follows it.
 use Rattle.std.proofs.Common.{◌-◌, length, drop, sym, ap, ◌∙◌, arith, length-drop, take_all, rules}
 use Rattle.decimal_text.specs.Spelled.{natural_in, above_zero, below_zero}
-use Rattle.decimal_text.specs.SpelledCases.{minus_first, no_minus_first, empty_no_word}
+use Rattle.decimal_text.proofs.SpelledCases.{minus_first, no_minus_first, empty_no_word}
 use Rattle.decimal_text.proofs.signed.Statement.{statement}
 use Rattle.decimal_text.proofs.signed.Tie as tie
 

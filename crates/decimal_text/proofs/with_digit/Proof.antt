@@ -1,7 +1,8 @@
 -- `decimal_text::with_digit` meets its contract: the difference is a digit exactly where it is below 10.
 use Rattle.std.proofs.Common.{◌≡◌, ◌+◌, ◌<◌, ◌≤◌, ap, ◌∙◌, inl, inr, ⊎_elim, arith, rules}
-use Rattle.bounded.specs.Boolean.{lt_or_le}
-use Rattle.decimal_text.specs.DigitByDigit.{with_digit, digit_none, digit_past, digit_more}
+use Rattle.bounded.proofs.Boolean.{lt_or_le}
+use Rattle.decimal_text.specs.DigitByDigit.{with_digit}
+use Rattle.decimal_text.proofs.DigitByDigit.{digit_none, digit_past, digit_more}
 use Rattle.decimal_text.proofs.with_digit.Statement.{statement}
 use Rattle.decimal_text.proofs.with_digit.Tie as tie
 

@@ -2,8 +2,9 @@
 use Prim.Native.Nat.{◌≤◌, ◌<◌, ◌-◌}
 use mathlib.Core.Path.{◌≡◌, refl, ◌∙◌, sym}
 use native.Mathlib.Omega.{arith}
-use Rattle.bounded.specs.First.{scan, pass}
-use Rattle.bounded.specs.Pair.{Outer, Inner, inner_out, inner_hit, outer_out}
+use Rattle.bounded.proofs.First.{scan, pass}
+use Rattle.bounded.specs.Pair.{Outer, Inner}
+use Rattle.bounded.proofs.Pair.{inner_out, inner_hit, outer_out}
 use Rattle.greedy_rule.specs.Plan.{fixed_collide}
 use Rattle.fixed_rows.specs.declared.Pair.TheVariants.{Nothing}
 use Rattle.fixed_rows.proofs.FixedPairs.{pair_found, none_found}

@@ -7,11 +7,13 @@ use native.Mathlib.Omega.{arith}
 use borrow.Author.Rules.{rules}
 use lib.IntN.{ℤ}
 use Rattle.answer.specs.Answer.{number_of, refused_pair, fixed_rows_collide}
-use Rattle.bounded.specs.Pair.{pair_below, pair_first, pair_second, least_pair}
-use Rattle.request_table.specs.CheckLaws.{Checked, checked}
+use Rattle.bounded.specs.Pair.{pair_below, pair_first, pair_second}
+use Rattle.bounded.proofs.Pair.{least_pair}
+use Rattle.request_table.specs.CheckLaws.{Checked}
+use Rattle.request_table.proofs.CheckLaws.{checked}
 use Rattle.request_table.specs.Limits.{greatest_rows}
 use Rattle.request_table.specs.Table.{rows}
-use Rattle.greedy_rule.specs.Answers.{check_stands, pair_refused}
+use Rattle.greedy_rule.proofs.Answers.{check_stands, pair_refused}
 use Rattle.greedy_rule.specs.Plan.{fixed_collide}
 use Rattle.fixed_rows.proofs.FixedPairs.{pair_says, nothing_says}
 use Rattle.greedy_planner.proofs.check.Statement.{statement}

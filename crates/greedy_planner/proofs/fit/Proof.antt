@@ -4,9 +4,9 @@ use native.Mathlib.Omega.{arith}
 use borrow.Author.Rules.{rules}
 use lib.ListN.{length}
 use Rattle.answer.specs.Answer.{number_of, done_with}
-use Rattle.greedy_rule.specs.Answers.{Done, no_clash, fit_refused, need_decides, done_of}
-use Rattle.greedy_rule.specs.DonePlans.{refusal_keeps}
-use Rattle.greedy_rule.specs.PlanFits.{plan_fits}
+use Rattle.greedy_rule.proofs.Answers.{Done, no_clash, fit_refused, need_decides, done_of}
+use Rattle.greedy_rule.proofs.DonePlans.{refusal_keeps}
+use Rattle.greedy_rule.proofs.PlanFits.{plan_fits}
 use Rattle.greedy_planner.proofs.Tables.{table_planned}
 use Rattle.greedy_planner.proofs.fit.Statement.{statement}
 use Rattle.greedy_planner.proofs.fit.Tie as tie

@@ -4,7 +4,7 @@ use native.Mathlib.Omega.{arith}
 use borrow.Author.Rules.{rules}
 use Rattle.answer.specs.Answer.{number_of}
 use Rattle.request_table.specs.Limits.{grid}
-use Rattle.greedy_rule.specs.DonePlans.{refusal_keeps}
+use Rattle.greedy_rule.proofs.DonePlans.{refusal_keeps}
 use Rattle.greedy_planner.proofs.plan.Statement.{statement}
 use Rattle.greedy_planner.proofs.plan.Tie as tie
 

@@ -9,7 +9,8 @@ use lib.ListN.{length, set}
 use mir.Facts.{to_z_pos}
 use mir.Syntax.{w32}
 use Rattle.request_table.specs.Table.{rows}
-use Rattle.bounded.specs.Replaced.{replaced, replaced_none, replaced_more, replaced_length}
+use Rattle.bounded.specs.Replaced.{replaced}
+use Rattle.bounded.proofs.Replaced.{replaced_none, replaced_more, replaced_length}
 use Rattle.greedy_planner.specs.Arrays.{offset_in}
 use Rattle.greedy_planner.proofs.store.Statement.{statement}
 use Rattle.greedy_planner.proofs.store.Tie as tie

@@ -3,8 +3,9 @@ use Prim.Native.Nat.{◌-◌, ◌≤◌}
 use mathlib.Core.Bool.{false}
 use mathlib.Core.Path.{◌≡◌, sym, ◌∙◌}
 use native.Mathlib.Omega.{arith}
-use Rattle.bounded.specs.Boolean.{neither_holds}
-use Rattle.bounded.specs.First.{holds_below, holds_none, holds_more, some_found}
+use Rattle.bounded.proofs.Boolean.{neither_holds}
+use Rattle.bounded.specs.First.{holds_below}
+use Rattle.bounded.proofs.First.{holds_none, holds_more, some_found}
 use Rattle.recording_rule.specs.Ledger.{kind_count, passes_used}
 use Rattle.ledger_entries.proofs.Entries.{passes, does_not_pass}
 use Rattle.ledger_entries.proofs.some_passes.Statement.{statement}

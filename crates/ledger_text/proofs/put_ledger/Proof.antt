@@ -4,8 +4,10 @@ use mathlib.Core.Path.{◌≡◌}
 use native.Mathlib.Omega.{arith}
 use Rattle.ledger_text.specs.LedgerText.{record_line, greatest_line}
 use Rattle.recording_rule.specs.Ledger.{kind_count, of_kind}
-use Rattle.text_pieces.specs.Pieces.{lines_below, lines_more}
-use Rattle.text_pieces.specs.Put.{Put, put_no_line, put_both, put_length}
+use Rattle.text_pieces.specs.Pieces.{lines_below}
+use Rattle.text_pieces.proofs.Pieces.{lines_more}
+use Rattle.text_pieces.specs.Put.{Put}
+use Rattle.text_pieces.proofs.Put.{put_no_line, put_both, put_length}
 use Rattle.ledger_text.proofs.put_ledger.Statement.{statement}
 use Rattle.ledger_text.proofs.put_ledger.Tie as tie
 

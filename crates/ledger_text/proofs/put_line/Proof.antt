@@ -4,11 +4,13 @@ use mathlib.Core.List.{List}
 use mathlib.Core.Path.{subst}
 use native.Mathlib.Omega.{arith}
 use borrow.Author.Rules.{rules}
-use Rattle.ledger_text.specs.LedgerLengths.{Held, line_short}
+use Rattle.ledger_text.specs.LedgerLengths.{Held}
+use Rattle.ledger_text.proofs.LedgerLengths.{line_short}
 use Rattle.ledger_text.specs.LedgerText.{record_line}
 use Rattle.recording_rule.specs.declared.RecordedAllocation.{RecordedAllocation}
 use Rattle.text_pieces.specs.Pieces.{line_feed, spaced}
-use Rattle.text_pieces.specs.Put.{Put, Room, first, more, chain_put}
+use Rattle.text_pieces.specs.Put.{Put, Room, first, more}
+use Rattle.text_pieces.proofs.Put.{chain_put}
 use Rattle.ledger_text.proofs.put_line.Statement.{statement}
 use Rattle.ledger_text.proofs.put_line.Tie as tie
 

@@ -1,8 +1,8 @@
 -- `ledger_text::write_ledger` meets its contract: the text whole, or no room.
 use borrow.Author.Rules.{rules}
 use Rattle.ledger_text.specs.LedgerText.{greatest_ledger_text}
-use Rattle.text_pieces.specs.Put.{put_at_start}
-use Rattle.text_pieces.specs.Replied.{no_room, reply_stands}
+use Rattle.text_pieces.proofs.Put.{put_at_start}
+use Rattle.text_pieces.proofs.Replied.{no_room, reply_stands}
 use Rattle.ledger_text.proofs.write_ledger.Statement.{statement}
 use Rattle.ledger_text.proofs.write_ledger.Tie as tie
 

@@ -4,8 +4,8 @@ use mathlib.Core.Path.{◌≡◌, sym, ◌∙◌, ap}
 use borrow.Author.Rules.{rules}
 use borrow.Author.Tests.{lt-ltb, le-ltb}
 use Rattle.word_bytes.specs.Bytes.{word_of}
-use Rattle.bounded.specs.Causes.{given, next, none_left}
-use Rattle.offline_rule.specs.Answers.{read_given}
+use Rattle.bounded.proofs.Causes.{given, next, none_left}
+use Rattle.offline_rule.proofs.Answers.{read_given}
 use Rattle.offline_rule.specs.OfflinePlan.{count_place, is_number}
 use Rattle.offline_checks.proofs.check.Statement.{statement}
 use Rattle.offline_checks.proofs.check.Tie as tie

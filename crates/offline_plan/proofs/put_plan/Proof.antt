@@ -10,7 +10,7 @@ use mir.Facts.{to_z_pos}
 use mir.Syntax.{w32}
 use Rattle.offline_rule.specs.OfflinePlan.{plan_head}
 use Rattle.word_lists.specs.WordLists.{with_words}
-use Rattle.word_lists.specs.WordsComeBack.{put_both, put_of_part}
+use Rattle.word_lists.proofs.WordsComeBack.{put_both, put_of_part}
 use Rattle.offline_plan.proofs.put_plan.Statement.{statement}
 use Rattle.offline_plan.proofs.put_plan.Tie as tie
 

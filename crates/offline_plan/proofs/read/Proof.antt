@@ -8,9 +8,10 @@ use lib.IntN.{ℤ}
 use lib.ListN.{length, drop}
 use lib.Seq.{length-take-le}
 use Rattle.answer.specs.Answer.{number_of}
-use Rattle.offline_rule.specs.Answers.{Readable, read_says, done_read, refusal_keeps_offsets}
+use Rattle.offline_rule.specs.Answers.{Readable}
+use Rattle.offline_rule.proofs.Answers.{read_says, done_read, refusal_keeps_offsets}
 use Rattle.word_lists.specs.WordLists.{words_from}
-use Rattle.word_lists.specs.WordsComeBack.{words_of_part}
+use Rattle.word_lists.proofs.WordsComeBack.{words_of_part}
 use Rattle.offline_plan.proofs.read.Statement.{statement}
 use Rattle.offline_plan.proofs.read.Tie as tie
 

@@ -3,8 +3,8 @@ use mathlib.Core.Path.{sym, ◌∙◌, ap}
 use native.Mathlib.Omega.{arith}
 use borrow.Author.Rules.{rules}
 use Rattle.answer.specs.Answer.{number_of}
-use Rattle.bounded.specs.Causes.{given, next, none_left}
-use Rattle.offline_rule.specs.Answers.{write_given, done_written, refusal_keeps_bytes}
+use Rattle.bounded.proofs.Causes.{given, next, none_left}
+use Rattle.offline_rule.proofs.Answers.{write_given, done_written, refusal_keeps_bytes}
 use Rattle.offline_plan.proofs.write.Statement.{statement}
 use Rattle.offline_plan.proofs.write.Tie as tie
 

@@ -4,7 +4,8 @@ use mathlib.Core.Path.{sym, ◌∙◌, ap}
 use native.Mathlib.Omega.{arith}
 use borrow.Author.Rules.{rules}
 use Rattle.answer.specs.Answer.{number_of}
-use Rattle.lifetime_rule.specs.Answers.{Sized, sizes_passed, sizes_stand, use_refused, list_passed}
+use Rattle.lifetime_rule.specs.Answers.{Sized}
+use Rattle.lifetime_rule.proofs.Answers.{sizes_passed, sizes_stand, use_refused, list_passed}
 use Rattle.lifetime_rule.specs.Uses.{count}
 use Rattle.operator_uses.proofs.check.Statement.{statement}
 use Rattle.operator_uses.proofs.check.Tie as tie

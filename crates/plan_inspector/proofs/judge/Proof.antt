@@ -3,8 +3,9 @@ use mathlib.Core.Path.{sym, ◌∙◌, ap}
 use borrow.Author.Rules.{rules}
 use lib.ListN.{length}
 use Rattle.answer.specs.Answer.{number_of}
-use Rattle.request_table.specs.CheckLaws.{Checked, checked}
-use Rattle.inspection_rule.specs.Answers.{check_stands, proposal_decides}
+use Rattle.request_table.specs.CheckLaws.{Checked}
+use Rattle.request_table.proofs.CheckLaws.{checked}
+use Rattle.inspection_rule.proofs.Answers.{check_stands, proposal_decides}
 use Rattle.plan_inspector.proofs.judge.Statement.{statement}
 use Rattle.plan_inspector.proofs.judge.Tie as tie
 

@@ -7,9 +7,10 @@ use borrow.Author.Rules.{rules}
 use borrow.Author.Tests.{ltb-true, ltb-false, eqb-true, not-false}
 use lib.IntN.{ℤ}
 use Rattle.answer.specs.Answer.{number_of, done_with, refused_at, refused_need, fixed_row_moved, bad_offset, need_exceeds_space}
-use Rattle.bounded.specs.First.{first_in, first_is}
+use Rattle.bounded.specs.First.{first_in}
+use Rattle.bounded.proofs.First.{first_is}
 use Rattle.request_table.specs.Table.{rows}
-use Rattle.inspection_rule.specs.Answers.{moved_refused, grid_refused, need_refused, placed_decides, pair_decides, passed_is_accepted}
+use Rattle.inspection_rule.proofs.Answers.{moved_refused, grid_refused, need_refused, placed_decides, pair_decides, passed_is_accepted}
 use Rattle.inspection_rule.specs.Inspect.{moved, off_grid, proposed_need, pair_of, proposal_of}
 use Rattle.plan_inspector.proofs.judge_offsets.Statement.{statement}
 use Rattle.plan_inspector.proofs.judge_offsets.Tie as tie

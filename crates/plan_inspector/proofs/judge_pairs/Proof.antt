@@ -3,10 +3,11 @@ use Prim.Native.Nat.{◌≤◌, ◌<◌, ◌-◌}
 use mathlib.Core.Path.{◌≡◌, sym, ◌∙◌, ap, ap₂}
 use native.Mathlib.Omega.{arith}
 use Rattle.answer.specs.Answer.{done_with, refused_pair, rows_collide}
-use Rattle.bounded.specs.First.{scan, pass}
-use Rattle.bounded.specs.Pair.{Outer, Inner, inner_out, inner_hit, outer_out}
+use Rattle.bounded.proofs.First.{scan, pass}
+use Rattle.bounded.specs.Pair.{Outer, Inner}
+use Rattle.bounded.proofs.Pair.{inner_out, inner_hit, outer_out}
 use Rattle.request_table.specs.Buffers.{collides}
-use Rattle.inspection_rule.specs.Answers.{pair_refused, accepted}
+use Rattle.inspection_rule.proofs.Answers.{pair_refused, accepted}
 use Rattle.inspection_rule.specs.Inspect.{proposed_collide}
 use Rattle.plan_inspector.proofs.judge_pairs.Statement.{statement}
 use Rattle.plan_inspector.proofs.judge_pairs.Tie as tie

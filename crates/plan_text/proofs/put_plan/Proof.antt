@@ -2,9 +2,9 @@
 use native.Mathlib.Omega.{arith}
 use borrow.Author.Rules.{rules}
 use Rattle.plan_text.specs.AllOrNothing.{room_says}
-use Rattle.text_pieces.specs.Put.{put_both, put_length}
+use Rattle.text_pieces.proofs.Put.{put_both, put_length}
 use Rattle.text_rule.specs.Text.{plan_text}
-use Rattle.text_rule.specs.TextLengths.{head_short}
+use Rattle.text_rule.proofs.TextLengths.{head_short}
 use Rattle.plan_text.proofs.put_plan.Statement.{statement}
 use Rattle.plan_text.proofs.put_plan.Tie as tie
 

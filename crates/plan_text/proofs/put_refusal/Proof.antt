@@ -1,7 +1,8 @@
 -- `plan_text::put_refusal` meets its contract: the word with the number, the other three, the line feed.
 use borrow.Author.Rules.{rules}
 use Rattle.text_pieces.specs.Pieces.{line_feed, spaced}
-use Rattle.text_pieces.specs.Put.{first, more, chain_put}
+use Rattle.text_pieces.specs.Put.{first, more}
+use Rattle.text_pieces.proofs.Put.{chain_put}
 use Rattle.text_rule.specs.Text.{refused_text}
 use Rattle.plan_text.proofs.put_refusal.Statement.{statement}
 use Rattle.plan_text.proofs.put_refusal.Tie as tie

@@ -1,7 +1,8 @@
 -- `plan_text::put_row` meets its contract: the row, the offset, the line feed.
 use borrow.Author.Rules.{rules}
 use Rattle.text_pieces.specs.Pieces.{line_feed, spaced}
-use Rattle.text_pieces.specs.Put.{first, more, chain_put}
+use Rattle.text_pieces.specs.Put.{first, more}
+use Rattle.text_pieces.proofs.Put.{chain_put}
 use Rattle.text_rule.specs.Text.{row_line}
 use Rattle.plan_text.proofs.put_row.Statement.{statement}
 use Rattle.plan_text.proofs.put_row.Tie as tie

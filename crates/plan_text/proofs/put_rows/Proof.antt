@@ -4,10 +4,11 @@ use mathlib.Core.Path.{◌≡◌}
 use native.Mathlib.Omega.{arith}
 use borrow.Author.Rules.{rules}
 use lib.ListN.{length}
-use Rattle.text_pieces.specs.Put.{Put, put_no_line, put_both, put_length}
-use Rattle.text_pieces.specs.Pieces.{lines_more}
+use Rattle.text_pieces.specs.Put.{Put}
+use Rattle.text_pieces.proofs.Put.{put_no_line, put_both, put_length}
+use Rattle.text_pieces.proofs.Pieces.{lines_more}
 use Rattle.text_rule.specs.Text.{offset_in, row_line, row_lines}
-use Rattle.text_rule.specs.TextLengths.{row_short}
+use Rattle.text_rule.proofs.TextLengths.{row_short}
 use Rattle.plan_text.proofs.put_rows.Statement.{statement}
 use Rattle.plan_text.proofs.put_rows.Tie as tie
 

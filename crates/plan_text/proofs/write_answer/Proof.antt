@@ -8,10 +8,12 @@ use borrow.Author.Rules.{rules}
 use borrow.Author.Tests.{not-true, not-false}
 use lib.ListN.{length}
 use Rattle.plan_text.specs.AllOrNothing.{room_for, whole_written, nothing_written}
-use Rattle.text_pieces.specs.Put.{Put, put_length}
+use Rattle.text_pieces.specs.Put.{Put}
+use Rattle.text_pieces.proofs.Put.{put_length}
 use Rattle.text_rule.specs.Text.{answer_text, offset_in}
-use Rattle.text_rule.specs.TextCases.{done_text, refused_text_lem}
-use Rattle.text_rule.specs.TextLengths.{Held, refused_short}
+use Rattle.text_rule.proofs.TextCases.{done_text, refused_text_lem}
+use Rattle.text_rule.specs.TextLengths.{Held}
+use Rattle.text_rule.proofs.TextLengths.{refused_short}
 use Rattle.plan_text.specs.Written.{has_room}
 use Rattle.plan_text.proofs.write_answer.Statement.{statement}
 use Rattle.plan_text.proofs.write_answer.Tie as tie

@@ -6,9 +6,9 @@ use borrow.Author.Tests.{not-true, not-false}
 use lib.ListN.{length}
 use Rattle.plan_text.specs.AllOrNothing.{room_for, whole_written, nothing_written}
 use Rattle.plan_text.specs.Written.{has_room}
-use Rattle.text_pieces.specs.Put.{put_whole}
+use Rattle.text_pieces.proofs.Put.{put_whole}
 use Rattle.text_rule.specs.Text.{bad_sheet_text}
-use Rattle.text_rule.specs.TextLengths.{bad_sheet_short}
+use Rattle.text_rule.proofs.TextLengths.{bad_sheet_short}
 use Rattle.plan_text.proofs.write_bad_sheet.Statement.{statement}
 use Rattle.plan_text.proofs.write_bad_sheet.Tie as tie
 

@@ -2,7 +2,8 @@
 use Prim.Native.Nat.{◌-◌}
 use mathlib.Core.Path.{sym, ◌∙◌}
 use native.Mathlib.Omega.{arith}
-use Rattle.bounded.specs.First.{Scan, scan, pass, hit, out}
+use Rattle.bounded.specs.First.{Scan}
+use Rattle.bounded.proofs.First.{scan, pass, hit, out}
 use Rattle.inspection_rule.specs.Inspect.{off_grid}
 use Rattle.proposals.proofs.lowest_off_grid.Statement.{statement}
 use Rattle.proposals.proofs.lowest_off_grid.Tie as tie

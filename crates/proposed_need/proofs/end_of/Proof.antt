@@ -5,8 +5,8 @@ use native.Mathlib.Omega.{arith}
 use borrow.Author.Rules.{rules}
 use borrow.Author.Tests.{le-ltb}
 use Rattle.request_table.specs.Buffers.{occupied, buffer_at}
-use Rattle.request_table.specs.Needs.{end_counts, empty_counts}
-use Rattle.alignment.specs.Rounding.{up_most}
+use Rattle.request_table.proofs.Needs.{end_counts, empty_counts}
+use Rattle.alignment.proofs.Rounding.{up_most}
 use Rattle.request_table.specs.declared.Buffer.{Buffer}
 use Rattle.request_table.specs.declared.Request.{Request}
 use Rattle.inspection_rule.specs.Inspect.{proposed}

@@ -1,7 +1,8 @@
 -- `proposed_need::need_of` meets its contract: the greatest end of the rows so far.
 use Prim.Native.Nat.{◌-◌}
 use native.Mathlib.Omega.{arith}
-use Rattle.request_table.specs.Needs.{Needing, needing_start, needing_more, needing_done}
+use Rattle.request_table.specs.Needs.{Needing}
+use Rattle.request_table.proofs.Needs.{needing_start, needing_more, needing_done}
 use Rattle.inspection_rule.specs.Inspect.{proposed, proposed_need}
 use Rattle.proposed_need.proofs.need_of.Statement.{statement}
 use Rattle.proposed_need.proofs.need_of.Tie as tie

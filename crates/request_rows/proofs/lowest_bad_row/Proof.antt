@@ -2,7 +2,8 @@
 use Prim.Native.Nat.{◌-◌}
 use mathlib.Core.Path.{◌∙◌}
 use native.Mathlib.Omega.{arith}
-use Rattle.bounded.specs.First.{Scan, scan, pass, hit, out}
+use Rattle.bounded.specs.First.{Scan}
+use Rattle.bounded.proofs.First.{scan, pass, hit, out}
 use Rattle.request_table.specs.Table.{bad_row}
 use Rattle.request_rows.proofs.Tests.{bad_is}
 use Rattle.request_rows.proofs.lowest_bad_row.Statement.{statement}

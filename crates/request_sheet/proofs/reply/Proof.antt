@@ -8,16 +8,17 @@ use borrow.Author.Rules.{rules}
 use lib.IntN.{ℤ}
 use lib.ListN.{length, take, drop, length-append}
 use lib.Seq.{take_at}
-use Rattle.word_lists.specs.WordsComeBack.{words_length}
-use Rattle.sheet_rule.specs.GoodSheets.{well_says}
-use Rattle.sheet_rule.specs.ReadSheets.{ReadAs, Table, read_as, requests_say, shapes_say, bad_says, good_rows, rows_are, shapes_are}
+use Rattle.word_lists.proofs.WordsComeBack.{words_length}
+use Rattle.sheet_rule.proofs.GoodSheets.{well_says}
+use Rattle.sheet_rule.proofs.ReadSheets.{ReadAs, Table, read_as, requests_say, shapes_say, bad_says, good_rows, rows_are, shapes_are}
 use Rattle.sheet_rule.specs.Sheet.{row_count, word_count, sheet_words, sheet_space}
 use Rattle.request_table.specs.Limits.{greatest_rows}
 use Rattle.request_table.specs.Table.{rows}
 use Rattle.shape_rule.specs.ShapeTable.{shape_count}
-use Rattle.reply_rule.specs.Replies.{table_reply, shapes_reply, bad_reply}
+use Rattle.reply_rule.proofs.Replies.{table_reply, shapes_reply, bad_reply}
 use Rattle.reply_rule.specs.Reply.{table_text, shapes_text, reply_text, reply_of, text_after}
-use Rattle.text_pieces.specs.Replied.{Stands, no_room, stands_as, reply_stands}
+use Rattle.text_pieces.specs.Replied.{Stands}
+use Rattle.text_pieces.proofs.Replied.{no_room, stands_as, reply_stands}
 use Rattle.text_pieces.specs.declared.Reply.TheVariants.{Text}
 use Rattle.text_rule.specs.Text.{greatest_text}
 use Rattle.request_sheet.proofs.Writing.{written}

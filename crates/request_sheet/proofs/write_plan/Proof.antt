@@ -11,8 +11,8 @@ use Rattle.text_rule.specs.Text.{answer_text, offset_in}
 use Rattle.request_table.specs.Limits.{greatest_rows}
 use Rattle.request_table.specs.Table.{rows}
 use Rattle.reply_rule.specs.Reply.{table_text}
-use Rattle.reply_rule.specs.Replies.{planned_told}
-use Rattle.text_pieces.specs.Replied.{stands_as}
+use Rattle.reply_rule.proofs.Replies.{planned_told}
+use Rattle.text_pieces.proofs.Replied.{stands_as}
 use Rattle.request_sheet.proofs.Writing.{written}
 use Rattle.request_sheet.proofs.write_plan.Statement.{statement}
 use Rattle.request_sheet.proofs.write_plan.Tie as tie

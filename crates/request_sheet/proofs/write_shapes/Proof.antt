@@ -7,16 +7,17 @@ use borrow.Author.Rules.{rules}
 use lib.IntN.{ℤ}
 use lib.ListN.{length, take}
 use Rattle.answer.specs.Answer.{number_of}
-use Rattle.reply_rule.specs.Replies.{shapes_refused, shapes_sized}
-use Rattle.text_pieces.specs.Replied.{stands_as}
+use Rattle.reply_rule.proofs.Replies.{shapes_refused, shapes_sized}
+use Rattle.text_pieces.proofs.Replied.{stands_as}
 use Rattle.reply_rule.specs.Reply.{table_text}
 use Rattle.request_table.specs.Table.{rows}
-use Rattle.shape_rule.specs.ShapeAnswers.{Fitting, shapes_decide}
+use Rattle.shape_rule.specs.ShapeAnswers.{Fitting}
+use Rattle.shape_rule.proofs.ShapeAnswers.{shapes_decide}
 use Rattle.shape_rule.specs.ShapeTable.{shape_count}
 use Rattle.shape_rule.specs.Sized.{shapes_of, sized_table}
-use Rattle.shape_rule.specs.SizedRows.{sized_length, sized_rows, stored_rows}
+use Rattle.shape_rule.proofs.SizedRows.{sized_length, sized_rows, stored_rows}
 use Rattle.text_rule.specs.Text.{refused_text, offset_in}
-use Rattle.text_rule.specs.TextCases.{refused_text_lem}
+use Rattle.text_rule.proofs.TextCases.{refused_text_lem}
 use Rattle.request_sheet.proofs.Writing.{written}
 use Rattle.request_sheet.proofs.write_shapes.Statement.{statement}
 use Rattle.request_sheet.proofs.write_shapes.Tie as tie

@@ -2,7 +2,8 @@
 use mathlib.Core.Path.{sym, ◌∙◌, ap}
 use borrow.Author.Rules.{rules}
 use Rattle.answer.specs.Answer.{number_of}
-use Rattle.request_table.specs.CheckLaws.{Shaped, shape_passed, shape_refused, content_decides}
+use Rattle.request_table.specs.CheckLaws.{Shaped}
+use Rattle.request_table.proofs.CheckLaws.{shape_passed, shape_refused, content_decides}
 use Rattle.requests.proofs.check.Statement.{statement}
 use Rattle.requests.proofs.check.Tie as tie
 

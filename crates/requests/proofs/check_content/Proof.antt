@@ -3,8 +3,8 @@ use Prim.Native.Nat.{◌<◌, ◌≤◌, zero-le}
 use mathlib.Core.Path.{◌∙◌}
 use native.Mathlib.Omega.{arith}
 use borrow.Author.Tests.{ltb-true, ltb-false}
-use Rattle.bounded.specs.First.{first_is}
-use Rattle.request_table.specs.CheckLaws.{space_refused, row_refused, content_passed}
+use Rattle.bounded.proofs.First.{first_is}
+use Rattle.request_table.proofs.CheckLaws.{space_refused, row_refused, content_passed}
 use Rattle.request_table.specs.Table.{rows, bad_row}
 use borrow.Author.Rules.{rules}
 use Rattle.requests.proofs.check_content.Statement.{statement}

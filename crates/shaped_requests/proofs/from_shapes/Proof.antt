@@ -3,7 +3,8 @@ use mathlib.Core.Path.{◌≡◌, sym, ◌∙◌, ap}
 use borrow.Author.Rules.{rules}
 use lib.ListN.{length}
 use Rattle.answer.specs.Answer.{number_of}
-use Rattle.shape_rule.specs.ShapeAnswers.{Fitting, lengths_passed, lengths_stand, shapes_decide, done_requests, refusal_keeps}
+use Rattle.shape_rule.specs.ShapeAnswers.{Fitting}
+use Rattle.shape_rule.proofs.ShapeAnswers.{lengths_passed, lengths_stand, shapes_decide, done_requests, refusal_keeps}
 use Rattle.shape_rule.specs.Sized.{sized_of}
 use Rattle.shaped_requests.proofs.from_shapes.Statement.{statement}
 use Rattle.shaped_requests.proofs.from_shapes.Tie as tie

@@ -4,8 +4,9 @@ use mathlib.Core.Path.{sym, ◌∙◌, ap}
 use native.Mathlib.Omega.{arith}
 use Rattle.answer.specs.Answer.{number_of, refused_at}
 use Rattle.answer.specs.declared.Answer.{Answer}
-use Rattle.bounded.specs.First.{Scan, scan, pass, hit, out}
-use Rattle.shape_rule.specs.ShapeAnswers.{bad_of, good_of, shape_refused, shapes_passed}
+use Rattle.bounded.specs.First.{Scan}
+use Rattle.bounded.proofs.First.{scan, pass, hit, out}
+use Rattle.shape_rule.proofs.ShapeAnswers.{bad_of, good_of, shape_refused, shapes_passed}
 use Rattle.shape_rule.specs.ShapeTable.{bad_shape}
 use Rattle.shaped_requests.proofs.judge.Statement.{statement}
 use Rattle.shaped_requests.proofs.judge.Tie as tie

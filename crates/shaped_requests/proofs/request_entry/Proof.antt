@@ -8,7 +8,7 @@ use mir.Facts.{to_z_pos}
 use mir.Syntax.{w32}
 use Rattle.answer.specs.declared.Answer.{Answer}
 use Rattle.request_table.specs.Limits.{greatest_space}
-use Rattle.shape_rule.specs.ShapeAnswers.{size_within, size_word, own_word}
+use Rattle.shape_rule.proofs.ShapeAnswers.{size_within, size_word, own_word}
 use Rattle.words.proofs.Signed.{read}
 use Rattle.words.specs.Words.{word_at}
 use Rattle.shaped_requests.proofs.request_entry.Statement.{statement}

@@ -4,7 +4,7 @@ use mathlib.Core.Path.{◌≡◌, ◌∙◌, ap, ap₂}
 use native.Mathlib.Omega.{arith}
 use borrow.Author.Rules.{rules}
 use lib.ListN.{take, drop}
-use Rattle.shape_rule.specs.ShapeAnswers.{many_dimensions, few_dimensions}
+use Rattle.shape_rule.proofs.ShapeAnswers.{many_dimensions, few_dimensions}
 use Rattle.shape_rule.specs.ShapeTable.{dimension_count}
 use Rattle.tensor_sizes.specs.ByteSize.{byte_size_of}
 use Rattle.words.proofs.Signed.{read}

@@ -5,7 +5,8 @@ use mathlib.Core.Path.{◌≡◌, sym, ◌∙◌, ap, ap₂}
 use native.Mathlib.Omega.{arith}
 use lib.IntN.{ℤ}
 use lib.ListN.{length, set}
-use Rattle.bounded.specs.Replaced.{replaced, replaced_none, replaced_more, replaced_length}
+use Rattle.bounded.specs.Replaced.{replaced}
+use Rattle.bounded.proofs.Replaced.{replaced_none, replaced_more, replaced_length}
 use Rattle.shape_rule.specs.ShapeTable.{shape_count}
 use Rattle.shape_rule.specs.Sized.{request_entry}
 use Rattle.words.proofs.Signed.{read}

@@ -2,7 +2,7 @@
 use mathlib.Core.Path.{refl}
 use borrow.Author.Rules.{rules}
 use Rattle.sheet_rule.specs.Sheet.{marked}
-use Rattle.sheet_rule.specs.GoodSheets.{unmarked}
+use Rattle.sheet_rule.proofs.GoodSheets.{unmarked}
 use Rattle.sheet_bytes.proofs.is_marked.Statement.{statement}
 use Rattle.sheet_bytes.proofs.is_marked.Tie as tie
 

@@ -4,7 +4,7 @@ use mathlib.Core.Path.{◌≡◌, ◌∙◌, ap}
 use native.Mathlib.Nat.{mul-le-mul}
 use native.Mathlib.Omega.{arith}
 use borrow.Author.Rules.{rules}
-use Rattle.sheet_rule.specs.GoodSheets.{few_words}
+use Rattle.sheet_rule.proofs.GoodSheets.{few_words}
 use Rattle.sheet_rule.specs.Sheet.{well_formed, version, row_words}
 use Rattle.sheet_bytes.proofs.is_well_formed.Statement.{statement}
 use Rattle.sheet_bytes.proofs.is_well_formed.Tie as tie

@@ -8,8 +8,8 @@ use borrow.Author.Rules.{rules}
 use borrow.Author.Tests.{not-true, not-false}
 use lib.ListN.{drop}
 use Rattle.word_lists.specs.WordLists.{words_from}
-use Rattle.sheet_rule.specs.GoodSheets.{words_within}
-use Rattle.sheet_rule.specs.ReadSheets.{requests_read, shapes_read, bad_read, good_rows, bad_rows}
+use Rattle.sheet_rule.proofs.GoodSheets.{words_within}
+use Rattle.sheet_rule.proofs.ReadSheets.{requests_read, shapes_read, bad_read, good_rows, bad_rows}
 use Rattle.sheet_rule.specs.Sheet.{row_words, word_count, well_formed, words_read}
 use Rattle.sheet_rule.specs.declared.Sheet.TheVariants.{Requests, Shapes}
 use Rattle.sheet_bytes.proofs.read.Statement.{statement}

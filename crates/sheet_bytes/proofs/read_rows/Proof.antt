@@ -6,7 +6,7 @@ use lib.IntN.{ℤ}
 use lib.ListN.{drop}
 use lib.Seq.{length-take-le}
 use Rattle.word_lists.specs.WordLists.{words_from}
-use Rattle.word_lists.specs.WordsComeBack.{words_of_part}
+use Rattle.word_lists.proofs.WordsComeBack.{words_of_part}
 use Rattle.sheet_bytes.proofs.read_rows.Statement.{statement}
 use Rattle.sheet_bytes.proofs.read_rows.Tie as tie
 

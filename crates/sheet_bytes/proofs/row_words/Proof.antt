@@ -1,5 +1,5 @@
 -- `sheet_bytes::row_words` meets its contract, arm by arm.
-use Rattle.sheet_rule.specs.GoodSheets.{request_words, shape_words, no_words}
+use Rattle.sheet_rule.proofs.GoodSheets.{request_words, shape_words, no_words}
 use Rattle.sheet_bytes.proofs.row_words.Statement.{statement}
 use Rattle.sheet_bytes.proofs.row_words.Tie as tie
 

@@ -3,7 +3,8 @@ use mathlib.Core.Path.{◌≡◌, sym, ◌∙◌, ap}
 use borrow.Author.Rules.{rules}
 use lib.ListN.{length}
 use Rattle.answer.specs.Answer.{number_of}
-use Rattle.lifetime_rule.specs.Answers.{Sized, EachGood, listed, list_stands, judged_decides, done_says, done_lifetimes, refusal_keeps}
+use Rattle.lifetime_rule.specs.Answers.{Sized, EachGood}
+use Rattle.lifetime_rule.proofs.Answers.{listed, list_stands, judged_decides, done_says, done_lifetimes, refusal_keeps}
 use Rattle.lifetime_rule.specs.FromUses.{lifetimes_of}
 use Rattle.tensor_lifetimes.proofs.Judging.{stored_is, storable}
 use Rattle.tensor_lifetimes.proofs.from_uses.Statement.{statement}

@@ -4,8 +4,9 @@ use mathlib.Core.Path.{◌≡◌, ◌∙◌}
 use native.Mathlib.Omega.{arith}
 use borrow.Author.Rules.{rules}
 use borrow.Author.Tests.{ltb-true, ltb-false}
-use Rattle.bounded.specs.First.{first_in, first_is}
-use Rattle.lifetime_rule.specs.Answers.{name_refused, read_refused, judged_passed}
+use Rattle.bounded.specs.First.{first_in}
+use Rattle.bounded.proofs.First.{first_is}
+use Rattle.lifetime_rule.proofs.Answers.{name_refused, read_refused, judged_passed}
 use Rattle.lifetime_rule.specs.Lifetimes.{unnamed, too_early}
 use Rattle.lifetime_rule.specs.Uses.{count}
 use Rattle.tensor_lifetimes.proofs.Judging.{lowest_unnamed_is, lowest_early_is, few_tensors}

@@ -2,7 +2,8 @@
 use Prim.Native.Nat.{◌-◌}
 use native.Mathlib.Omega.{arith}
 use borrow.Author.Tests.{le-leb, lt-leb}
-use Rattle.bounded.specs.First.{Scan, scan, pass, hit, out}
+use Rattle.bounded.specs.First.{Scan}
+use Rattle.bounded.proofs.First.{scan, pass, hit, out}
 use Rattle.tensor_lifetimes.specs.Gathered.{unnamed_in}
 use Rattle.tensor_lifetimes.proofs.lowest_unnamed.Statement.{statement}
 use Rattle.tensor_lifetimes.proofs.lowest_unnamed.Tie as tie

@@ -8,8 +8,9 @@ use lib.IntN.{ℤ, pos}
 use lib.ListN.{length, set, length-set}
 use mir.Facts.{to_z_pos}
 use mir.Syntax.{w32}
-use Rattle.bounded.specs.Replaced.{replaced, replaced_none, replaced_length}
-use Rattle.bounded.specs.TwoEach.{two_more}
+use Rattle.bounded.specs.Replaced.{replaced}
+use Rattle.bounded.proofs.Replaced.{replaced_none, replaced_length}
+use Rattle.bounded.proofs.TwoEach.{two_more}
 use Rattle.known_lifetimes.specs.declared.Lifetime.{Lifetime}
 use Rattle.tensor_lifetimes.specs.Gathered.{lifetime_in, stored_word}
 use Rattle.tensor_lifetimes.proofs.store.Statement.{statement}

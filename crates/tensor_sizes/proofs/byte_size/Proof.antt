@@ -5,11 +5,12 @@ use mathlib.Core.Path.{◌≡◌, refl, sym, ◌∙◌, ap}
 use native.Mathlib.Omega.{arith}
 use borrow.Author.Rules.{rules}
 use borrow.Author.Tests.{lt-ltb, le-ltb, eq-eqb}
-use Rattle.bounded.specs.Causes.{given, next}
+use Rattle.bounded.proofs.Causes.{given, next}
 use Rattle.words.specs.Words.{natural}
 use Rattle.tensor_sizes.specs.ByteSize.{elements_size_of}
-use Rattle.tensor_sizes.specs.Elements.{Element, float32, float16, int32, uint8, int64, bool, int16, complex64, int8, float64, complex128, uint64, element_bytes_lem, element_or_none, some_bytes}
-use Rattle.tensor_sizes.specs.SizeLaws.{size_given, elements_decide}
+use Rattle.tensor_sizes.specs.Elements.{Element, float32, float16, int32, uint8, int64, bool, int16, complex64, int8, float64, complex128, uint64}
+use Rattle.tensor_sizes.proofs.Elements.{element_bytes_lem, element_or_none, some_bytes}
+use Rattle.tensor_sizes.proofs.SizeLaws.{size_given, elements_decide}
 use Rattle.tensor_sizes.proofs.Codes.{in_arm, in_keys}
 use Rattle.tensor_sizes.proofs.byte_size.Statement.{statement}
 use Rattle.tensor_sizes.proofs.byte_size.Tie as tie

@@ -8,8 +8,8 @@ use lib.ListN.{length, take}
 use lib.Seq.{take_all}
 use Rattle.request_table.specs.Limits.{greatest_space}
 use Rattle.tensor_sizes.specs.ByteSize.{elements as elements_of}
-use Rattle.tensor_sizes.specs.Capped.{capped_more}
-use Rattle.tensor_sizes.specs.SizeLaws.{no_elements, elements_more}
+use Rattle.tensor_sizes.proofs.Capped.{capped_more}
+use Rattle.tensor_sizes.proofs.SizeLaws.{no_elements, elements_more}
 use Rattle.tensor_sizes.proofs.elements.Statement.{statement}
 use Rattle.tensor_sizes.proofs.elements.Tie as tie
 

@@ -5,9 +5,9 @@ use mathlib.Core.Path.{◌≡◌, sym, ◌∙◌, ap}
 use native.Mathlib.Omega.{arith}
 use lib.ListN.{length, take}
 use lib.Seq.{take_all}
-use Rattle.bounded.specs.Boolean.{neither_holds}
+use Rattle.bounded.proofs.Boolean.{neither_holds}
 use Rattle.tensor_sizes.specs.ByteSize.{has_negative}
-use Rattle.tensor_sizes.specs.SizeLaws.{none_negative, negative_more, negative_seen}
+use Rattle.tensor_sizes.proofs.SizeLaws.{none_negative, negative_more, negative_seen}
 use Rattle.tensor_sizes.proofs.has_negative.Statement.{statement}
 use Rattle.tensor_sizes.proofs.has_negative.Tie as tie
 

@@ -7,11 +7,11 @@ use borrow.Author.Rules.{rules}
 use borrow.Author.Tests.{ltb-false}
 use lib.Dec.{ltb}
 use Rattle.answer.specs.Answer.{done_with}
-use Rattle.bounded.specs.Causes.{given, next, none_left}
+use Rattle.bounded.proofs.Causes.{given, next, none_left}
 use Rattle.request_table.specs.Limits.{greatest_space}
 use Rattle.tensor_sizes.specs.ByteSize.{elements}
-use Rattle.tensor_sizes.specs.Capped.{capped_is, capped_test}
-use Rattle.tensor_sizes.specs.SizeLaws.{elements_given, negative_told}
+use Rattle.tensor_sizes.proofs.Capped.{capped_is, capped_test}
+use Rattle.tensor_sizes.proofs.SizeLaws.{elements_given, negative_told}
 use Rattle.tensor_sizes.proofs.size_of.Statement.{statement}
 use Rattle.tensor_sizes.proofs.size_of.Tie as tie
 

@@ -1,6 +1,6 @@
 -- `text_pieces::has_room` meets its contract.
 use native.Mathlib.Omega.{arith}
-use Rattle.text_pieces.specs.Put.{no_room, room_by_rest}
+use Rattle.text_pieces.proofs.Put.{no_room, room_by_rest}
 use Rattle.text_pieces.proofs.has_room.Statement.{statement}
 use Rattle.text_pieces.proofs.has_room.Tie as tie
 

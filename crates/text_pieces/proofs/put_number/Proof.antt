@@ -8,8 +8,9 @@ use borrow.Author.Tests.{not-true, not-false}
 use lib.ListN.{length, take, length-append}
 use lib.Seq.{length-take-le}
 use Rattle.decimal_text.specs.Decimal.{decimal}
-use Rattle.decimal_text.specs.Decimals.{decimal_of, fewest_bounded}
-use Rattle.text_pieces.specs.Put.{Room, has_room, room_says, room_first, room_next, put_both, nothing_put, whole_put}
+use Rattle.decimal_text.proofs.Decimals.{decimal_of, fewest_bounded}
+use Rattle.text_pieces.specs.Put.{Room, has_room}
+use Rattle.text_pieces.proofs.Put.{room_says, room_first, room_next, put_both, nothing_put, whole_put}
 use Rattle.text_pieces.proofs.put_number.Statement.{statement}
 use Rattle.text_pieces.proofs.put_number.Tie as tie
 

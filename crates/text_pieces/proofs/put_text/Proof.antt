@@ -2,7 +2,7 @@
 use mathlib.Core.Path.{sym, ◌∙◌}
 use borrow.Author.Rules.{rules}
 use borrow.Author.Tests.{not-true, not-false}
-use Rattle.text_pieces.specs.Put.{room_says, nothing_put, whole_put}
+use Rattle.text_pieces.proofs.Put.{room_says, nothing_put, whole_put}
 use Rattle.text_pieces.proofs.put_text.Statement.{statement}
 use Rattle.text_pieces.proofs.put_text.Tie as tie
 

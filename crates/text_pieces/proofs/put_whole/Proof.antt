@@ -3,7 +3,8 @@ use Prim.Native.Nat.{◌+◌, ◌-◌, ◌≤◌}
 use native.Mathlib.Nat.{add-zero}
 use native.Mathlib.Omega.{arith}
 use lib.ListN.{length, take}
-use Rattle.text_pieces.specs.Put.{Put, put_none, put_more, put_all, put_length}
+use Rattle.text_pieces.specs.Put.{Put}
+use Rattle.text_pieces.proofs.Put.{put_none, put_more, put_all, put_length}
 use Rattle.text_pieces.proofs.put_whole.Statement.{statement}
 use Rattle.text_pieces.proofs.put_whole.Tie as tie
 

@@ -2,7 +2,8 @@
 use Prim.Native.Nat.{◌-◌}
 use mathlib.Core.Path.{◌∙◌}
 use native.Mathlib.Omega.{arith}
-use Rattle.bounded.specs.First.{Scan, scan, pass, hit, out}
+use Rattle.bounded.specs.First.{Scan}
+use Rattle.bounded.proofs.First.{scan, pass, hit, out}
 use Rattle.lifetime_rule.specs.Uses.{bad_use}
 use Rattle.use_rows.proofs.Tests.{bad_is}
 use Rattle.use_rows.proofs.lowest_bad_use.Statement.{statement}

@@ -4,7 +4,7 @@ use mathlib.Core.Path.{sym, ◌∙◌, ap}
 use native.Mathlib.Omega.{arith}
 use borrow.Author.Rules.{rules}
 use Rattle.word_bytes.specs.Bytes.{with_word}
-use Rattle.word_bytes.specs.BytesComeBack.{put_past}
+use Rattle.word_bytes.proofs.BytesComeBack.{put_past}
 use Rattle.words.proofs.Signed.{read}
 use Rattle.word_lists.proofs.put_word_of.Statement.{statement}
 use Rattle.word_lists.proofs.put_word_of.Tie as tie

@@ -4,7 +4,8 @@ use mathlib.Core.Path.{◌≡◌, sym, ◌∙◌, ap, ap₂}
 use native.Mathlib.Omega.{arith}
 use borrow.Author.Rules.{rules}
 use lib.ListN.{length, set}
-use Rattle.bounded.specs.Replaced.{replaced, replaced_none, replaced_more, replaced_length}
+use Rattle.bounded.specs.Replaced.{replaced}
+use Rattle.bounded.proofs.Replaced.{replaced_none, replaced_more, replaced_length}
 use Rattle.word_bytes.specs.Bytes.{word_of}
 use Rattle.words.proofs.Signed.{read}
 use Rattle.word_lists.proofs.Turns.{all_read}

@@ -3,7 +3,7 @@ use Prim.Native.Nat.{◌*◌}
 use mathlib.Core.Path.{sym, ◌∙◌}
 use native.Mathlib.Omega.{arith}
 use borrow.Author.Rules.{rules}
-use Rattle.word_bytes.specs.BytesComeBack.{word_past}
+use Rattle.word_bytes.proofs.BytesComeBack.{word_past}
 use Rattle.words.proofs.Signed.{read}
 use Rattle.word_lists.proofs.word_of.Statement.{statement}
 use Rattle.word_lists.proofs.word_of.Tie as tie

@@ -6,7 +6,7 @@ use borrow.Author.Rules.{rules}
 use lib.IntN.{pos}
 use lib.ListN.{length, get_or, drop}
 use Rattle.word_bytes.specs.Bytes.{with_word}
-use Rattle.word_bytes.specs.BytesComeBack.{length_kept}
+use Rattle.word_bytes.proofs.BytesComeBack.{length_kept}
 use Rattle.words.proofs.Signed.{read}
 use Rattle.word_lists.specs.WordLists.{with_words}
 use Rattle.word_lists.proofs.Turns.{one_put, all_put}

@@ -3,7 +3,7 @@ use Prim.Native.Nat.{ℕ}
 use mathlib.Core.Path.{◌≡◌, sym, ◌∙◌, ap}
 use native.Mathlib.Omega.{arith}
 use borrow.Author.Rules.{rules}
-use Rattle.arena_sections.specs.Cases.{allocation_number, persistent_checked, persistent_too_large, persistent_no_room, persistent_room_lem}
+use Rattle.arena_sections.proofs.Cases.{allocation_number, persistent_checked, persistent_too_large, persistent_no_room, persistent_room_lem}
 use Rattle.arena_sections.specs.Sections.{base_alignment, with_tail, done_outcome}
 use Rattle.arena_sections.proofs.Sections.allocate_persistent.Statement.{statement}
 use Rattle.arena_sections.proofs.Sections.allocate_persistent.Tie as tie

@@ -3,8 +3,8 @@ use Prim.Native.Nat.{ℕ, ◌+◌}
 use mathlib.Core.Path.{◌≡◌, sym, ◌∙◌, ap}
 use native.Mathlib.Omega.{arith}
 use borrow.Author.Rules.{rules}
-use Rattle.alignment.specs.Rounding.{up_most}
-use Rattle.arena_sections.specs.Cases.{allocation_number, temp_checked, temp_no_room, temp_room_lem}
+use Rattle.alignment.proofs.Rounding.{up_most}
+use Rattle.arena_sections.proofs.Cases.{allocation_number, temp_checked, temp_no_room, temp_room_lem}
 use Rattle.arena_sections.specs.Sections.{base_alignment, with_temp, done_outcome}
 use Rattle.arena_sections.proofs.Sections.allocate_temp.Statement.{statement}
 use Rattle.arena_sections.proofs.Sections.allocate_temp.Tie as tie

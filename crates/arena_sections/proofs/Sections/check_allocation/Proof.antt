@@ -3,7 +3,7 @@ use mathlib.Core.Bool.{true}
 use mathlib.Core.Path.{◌≡◌, sym, ◌∙◌}
 use borrow.Author.Rules.{rules}
 use borrow.Author.Tests.{not-true, not-false}
-use Rattle.arena_sections.specs.Cases.{allocation_not_valid, allocation_not_allowed, allocation_passes}
+use Rattle.arena_sections.proofs.Cases.{allocation_not_valid, allocation_not_allowed, allocation_passes}
 use Rattle.arena_sections.specs.Sections.{valid}
 use Rattle.arena_sections.proofs.Sections.check_allocation.Statement.{statement}
 use Rattle.arena_sections.proofs.Sections.check_allocation.Tie as tie

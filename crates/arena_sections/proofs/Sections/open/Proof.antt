@@ -4,7 +4,7 @@ use mathlib.Core.Path.{◌∙◌, ap}
 use native.Mathlib.Omega.{arith}
 use borrow.Author.Rules.{rules}
 use Rattle.answer.specs.Answer.{sections_not_valid}
-use Rattle.arena_sections.specs.Cases.{open_short, open_long, open_done}
+use Rattle.arena_sections.proofs.Cases.{open_short, open_long, open_done}
 use Rattle.arena_sections.specs.Sections.{fresh, refused_outcome, done_outcome}
 use Rattle.arena_sections.proofs.Sections.open.Statement.{statement}
 use Rattle.arena_sections.proofs.Sections.open.Tie as tie

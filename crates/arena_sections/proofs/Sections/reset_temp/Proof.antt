@@ -2,7 +2,7 @@
 use mathlib.Core.Path.{sym, ◌∙◌}
 use borrow.Author.Rules.{rules}
 use borrow.Author.Tests.{not-true, not-false}
-use Rattle.arena_sections.specs.Cases.{reset_not_valid, reset_done}
+use Rattle.arena_sections.proofs.Cases.{reset_not_valid, reset_done}
 use Rattle.arena_sections.proofs.Sections.reset_temp.Statement.{statement}
 use Rattle.arena_sections.proofs.Sections.reset_temp.Tie as tie
 

@@ -4,7 +4,7 @@ use mathlib.Core.Path.{◌≡◌, sym, ◌∙◌}
 use native.Mathlib.Omega.{arith}
 use borrow.Author.Rules.{rules}
 use borrow.Author.Tests.{not-true, not-false}
-use Rattle.arena_sections.specs.Cases.{head_not_valid, head_temporaries_out, head_smaller, head_no_room, head_room}
+use Rattle.arena_sections.proofs.Cases.{head_not_valid, head_temporaries_out, head_smaller, head_no_room, head_room}
 use Rattle.arena_sections.specs.Sections.{valid}
 use Rattle.arena_sections.proofs.Sections.set_head.Statement.{statement}
 use Rattle.arena_sections.proofs.Sections.set_head.Tie as tie

@@ -7,7 +7,7 @@ use borrow.Author.Tests.{ltb-true}
 use lib.Dec.{ltb}
 use lib.ListN.{length, length-set}
 use lib.Seq.{length-take-le}
-use Rattle.bounded.specs.Boolean.{both}
+use Rattle.bounded.proofs.Boolean.{both}
 use Rattle.bench_vectors.proofs.read.bytes.Statement.{statement}
 use Rattle.bench_vectors.proofs.read.bytes.Tie as tie
 

@@ -3,8 +3,9 @@ use Prim.Native.Nat.{◌-◌}
 use mathlib.Core.Path.{ap}
 use native.Mathlib.Omega.{arith}
 use Rattle.request_table.specs.Buffers.{end_or_zero}
-use Rattle.request_table.specs.Needs.{Needing, needing_start, needing_more, needing_done}
-use Rattle.alignment.specs.Rounding.{up_most}
+use Rattle.request_table.specs.Needs.{Needing}
+use Rattle.request_table.proofs.Needs.{needing_start, needing_more, needing_done}
+use Rattle.alignment.proofs.Rounding.{up_most}
 use Rattle.greedy_rule.specs.Greedy.{greedy_plan}
 use Rattle.greedy_rule.specs.Plan.{greedy_need}
 use Rattle.greedy_planner.proofs.RowBuffer.{row_buffer}

@@ -2,7 +2,7 @@
 use native.Mathlib.Omega.{arith}
 use borrow.Author.Tests.{le-ltb}
 use borrow.Author.Rules.{rules}
-use Rattle.request_table.specs.Needs.{end_counts, empty_counts}
+use Rattle.request_table.proofs.Needs.{end_counts, empty_counts}
 use Rattle.greedy_planner.proofs.need.raised.Statement.{statement}
 use Rattle.greedy_planner.proofs.need.raised.Tie as tie
 

@@ -1,0 +1,10 @@
+pub mod Answers
+pub mod Demand3
+pub mod FinalTables
+pub mod GoodAccesses
+pub mod GoodScripts
+pub mod Inside
+pub mod LastWrites
+pub mod OneHolder
+pub mod Ready
+pub mod RunLaws

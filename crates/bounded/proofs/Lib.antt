@@ -1,0 +1,15 @@
+pub mod Boolean
+pub mod Causes
+pub mod Count
+pub mod Entries
+pub mod First
+pub mod Front
+pub mod Greatest
+pub mod InOrder
+pub mod Last
+pub mod Listed
+pub mod Lowest
+pub mod Pair
+pub mod Replaced
+pub mod Sums
+pub mod TwoEach

@@ -1,0 +1,10 @@
+pub mod Answers
+pub mod Demand2
+pub mod DonePlans
+pub mod EmptyRows
+pub mod GreedyOrder
+pub mod LowestPlace
+pub mod NoCollision
+pub mod OnGrid
+pub mod PlanByPosition
+pub mod PlanFits

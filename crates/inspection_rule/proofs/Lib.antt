@@ -1,0 +1,4 @@
+pub mod Answers
+pub mod ExactRule
+pub mod FirstEntries
+pub mod Outcomes

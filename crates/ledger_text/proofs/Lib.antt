@@ -1,0 +1,2 @@
+pub mod LedgerExample
+pub mod LedgerLengths

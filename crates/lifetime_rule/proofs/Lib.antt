@@ -1,0 +1,6 @@
+pub mod Answers
+pub mod GoodUses
+pub mod Naming
+pub mod OnlyOutputs
+pub mod Outcomes
+pub mod SoundLifetimes

@@ -1,0 +1,2 @@
+pub mod OutputsExample
+pub mod OutputsRead

@@ -1,0 +1,4 @@
+pub mod Answers
+pub mod FinalTables
+pub mod Outcomes
+pub mod RoundTrips

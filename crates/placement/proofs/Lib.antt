@@ -1,0 +1,4 @@
+pub mod EmptyRows
+pub mod LowestFree
+pub mod Put
+pub mod WalkReachesLowest

@@ -1,0 +1,4 @@
+pub mod PastIgnored
+pub mod ShapeAnswers
+pub mod ShapeOutcomes
+pub mod SizedRows

@@ -1,0 +1,3 @@
+pub mod GoodSheets
+pub mod ReadSheets
+pub mod SheetExamples

@@ -1,0 +1,4 @@
+pub mod TextCases
+pub mod TextExamples
+pub mod TextLengths
+pub mod TextOfOffsets
