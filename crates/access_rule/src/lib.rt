@@ -1,8 +1,10 @@
 // The rows of a touch script. What they mean is in specs/: good touches, the run, the script's answer and demand 3.
+#![tactic(auto)]
+
 use units::{Moment, Row};
 
 // One touch: a byte of a request row that is read or written at a moment. The value of one that reads says nothing.
-#[derive(Drop)]
+#[derive(Clone, Copy)]
 pub struct Access {
     pub moment: Moment,
     pub row: Row,

@@ -1,5 +1,7 @@
 // Running a touch script over a lent arena (document 01, "The desk's order of checks"): the whole script is judged before the first touch, and on
 // refusal not a byte changes. The document's touch is an access here.
+#![tactic(auto)]
+
 ghost use Rattle.std.specs.Prelude.{◌<◌, ◌≤◌, true, ◌≡◌, length};
 ghost use Rattle.bounded.specs.Replaced.{replaced};
 ghost use Rattle.request_table.specs.Limits.{grid as gridOf};

@@ -1,5 +1,7 @@
 // Reading a touch script (document 01, "The desk's order of checks"): its touches, whether a touch is good, the lowest that is not; and the checks 1 to 3
 // of the script's tables. The document's touch is an access here. All is total: any script, any touch, any tables.
+#![tactic(auto)]
+
 ghost use Rattle.std.specs.Prelude.{◌&&◌, ◌≡◌, leb};
 ghost use Rattle.bounded.specs.First.{first_in};
 ghost use Rattle.access_rule.specs.Accesses.{count as count_of, access, reaches, bad_access};

@@ -1,6 +1,8 @@
 // Rounding to a grid or an alignment, the bytes lost before the first multiple, and the alignments that a grid allows. Rounding up is one function, for
 // whoever rounds. All is total: any grid, any number; no number is a multiple of a grid of 0 but 0. Rounding to 16, the grid of every plan and the base
 // alignment of an arena, goes by bits, in at most two operations: 15 is all the bits below 16. Only another grid takes a division.
+#![tactic(auto)]
+
 ghost use Rattle.std.specs.Prelude.{◌≡◌};
 ghost use Rattle.alignment.specs.Rounding.{rounded_up, rounded_down};
 ghost use Rattle.alignment.specs.Alignments.{loss, allowed};

@@ -1,8 +1,10 @@
 // Document 01, "Answer numbers": an answer is a number, two places a and b, and a need; each is 0 unless the document names it.
+#![tactic(auto)]
+
 ghost use Rattle.std.specs.Prelude.{◌≡◌};
 ghost use Rattle.answer.specs.Answer.{done_with, done_at, refused as refusedBy, refused_at, refused_pair, refused_need};
 
-#[derive(Drop)]
+#[derive(Clone, Copy)]
 pub struct Answer {
     pub number: u32,
     pub a: u32,

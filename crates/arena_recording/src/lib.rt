@@ -1,5 +1,7 @@
 // Persistent allocations through a ledger that records them by kind (document 02, order 4). Sections and ledger go in by value and come back beside the
 // answer. The allocation itself is the sections' own. Any ledger may be handed in: one that does not agree with the sections is refused by number 13.
+#![tactic(auto)]
+
 ghost use Rattle.std.specs.Prelude.{◌-◌, ◌≡◌};
 ghost use Rattle.arena_sections.specs.Sections.{base_alignment};
 ghost use Rattle.recording_rule.specs.Cases.{Recordable};

@@ -1,12 +1,14 @@
 // The head, temporary and tail section of one arena (document 01, "Three sections in one arena"). The state goes in by value and the next state comes
 // back beside the answer. Any state may be handed in: one that is not valid is refused by number 13, and a refusal hands the same state back.
+#![tactic(auto)]
+
 ghost use Rattle.std.specs.Prelude.{◌≡◌};
 ghost use Rattle.arena_sections.specs.Sections.{base_alignment, fresh as freshState, valid, refused_outcome, done_outcome, open_of, allocation_of, persistent_of, temp_of, reset_of, head_of, };
 
 use answer::Answer;
 
 // Where the sections end. In a valid state head ≤ temp ≤ tail ≤ usable ≤ GREATEST_LENGTH.
-#[derive(Drop)]
+#[derive(Clone, Copy)]
 pub struct Sections {
     pub head: u32,
     pub temp: u32,
@@ -15,7 +17,7 @@ pub struct Sections {
 }
 
 // An operation's answer, with the next state.
-#[derive(Drop)]
+#[derive(Clone, Copy)]
 pub struct Outcome {
     pub answer: Answer,
     pub sections: Sections,

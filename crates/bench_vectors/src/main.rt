@@ -1,5 +1,7 @@
 // Runs the bench's vectors. Standard input has one to a line: the public function's name, what the vector shows, a colon, and the function's tables and
 // numbers. Each line's answer goes to standard output, so that a vector is a line here and a line there, and no expected value stands in the program.
+#![tactic(auto)]
+
 use libc::STDIN_FILENO;
 
 mod calls;

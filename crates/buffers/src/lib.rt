@@ -1,5 +1,7 @@
 // A row at an offset (document 01, "Requests and the greedy rule"): its buffer, the grid, whether two buffers live together and collide. The test for
 // living together is one function, for whoever plans or judges a plan; rounding up is `alignment`'s. All is total: any grid, any buffer.
+#![tactic(auto)]
+
 ghost use Rattle.std.specs.Prelude.{◌≡◌};
 ghost use Rattle.request_table.specs.Table.{on_grid};
 ghost use Rattle.request_table.specs.Buffers.{buffer, live_together, ends_after, collides};

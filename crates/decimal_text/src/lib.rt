@@ -1,5 +1,7 @@
 // Numbers in decimal, read from text. Every text is allowed: one that spells no number gives what stands for none, so that no caller has a text to
 // look at before it reads.
+#![tactic(auto)]
+
 ghost use Rattle.std.specs.Prelude.{◌≡◌};
 ghost use Rattle.decimal_text.specs.Spelled.{natural_in, no_word, above_zero, below_zero, signed_in};
 ghost use Rattle.decimal_text.specs.DigitByDigit.{with_digit};
@@ -8,7 +10,7 @@ ghost use Rattle.decimal_text.specs.DigitByDigit.{with_digit};
 pub const NO_NUMBER: u64 = 18446744073709551615;
 
 // A signed number of 32 bits, and whether the text spelled one.
-#[derive(Drop)]
+#[derive(Clone, Copy)]
 pub struct Word {
     pub value: i32,
     pub good: bool,

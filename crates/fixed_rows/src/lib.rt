@@ -1,4 +1,6 @@
 // Check 6: whether two fixed rows collide, and which pair of them is the first. Every planner asks it.
+#![tactic(auto)]
+
 ghost use Rattle.std.specs.Prelude.{◌≡◌};
 ghost use Rattle.greedy_rule.specs.Plan.{fixed_collide};
 ghost use Rattle.fixed_rows.specs.FixedPair.{fixed_pair};
@@ -6,7 +8,7 @@ ghost use Rattle.fixed_rows.specs.FixedPair.{fixed_pair};
 use units::Row;
 
 // The pair that a search found, if there is one.
-#[derive(Drop)]
+#[derive(Clone, Copy)]
 pub enum Pair {
     Found(Row, Row),
     Nothing,

@@ -1,4 +1,6 @@
 // The greedy planner: document 01's rule for where each tensor sits.
+#![tactic(auto)]
+
 mod need;
 mod order;
 mod place;

@@ -1,4 +1,6 @@
 // What is known of a tensor from the uses so far, and what one use more adds to it.
+#![tactic(auto)]
+
 ghost use Rattle.std.specs.Prelude.{◌+◌, ◌≤◌, min, max, ◌≡◌};
 ghost use Rattle.lifetime_rule.specs.Uses.{greatest_operators};
 ghost use Rattle.known_lifetimes.specs.OneUseMore.{readable_with, lifetime_with};
@@ -10,7 +12,7 @@ use use_rows::{MODEL_INPUT, MODEL_OUTPUT, WRITES};
 
 // What the uses say of a tensor: the lowest operator that names it; one past the last of its life, which is the highest that names it or, for a model
 // output, the last of all; and the lowest that may read it. Where there is none, the number of operators stands for a lowest one, and the end is 0.
-#[derive(Drop)]
+#[derive(Clone, Copy)]
 pub struct Lifetime {
     pub first: Moment,
     pub end: Moment,

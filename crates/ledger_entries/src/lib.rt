@@ -1,5 +1,7 @@
 // A ledger as code (document 02, order 4): one to begin with, what was recorded of a kind, and whether a ledger agrees with itself and with what the tail
 // has taken. Any ledger may be handed in.
+#![tactic(auto)]
+
 ghost use Rattle.std.specs.Prelude.{◌≡◌};
 ghost use Rattle.bounded.specs.First.{holds_below};
 ghost use Rattle.recording_rule.specs.Ledger.{kind_count, nothing_recorded, empty_ledger, of_kind, total_used, passes_used, balanced as balancedAgainst, };

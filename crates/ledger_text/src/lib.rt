@@ -1,4 +1,6 @@
 // The text of a ledger (document 02, order 4), written into lent bytes: a line `code requested used count` for each kind, by rising code.
+#![tactic(auto)]
+
 ghost use Rattle.std.specs.Prelude.{◌+◌, ◌<◌, ◌≤◌, ◌≡◌, length};
 ghost use Rattle.ledger_text.specs.LedgerText.{record_line, ledger_text, greatest_line, greatest_ledger_text};
 ghost use Rattle.recording_rule.specs.Ledger.{kind_count, of_kind};

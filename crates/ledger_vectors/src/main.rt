@@ -1,6 +1,8 @@
 // Runs the ledger's vectors. Standard input has them as numbers, 26 to a vector: head, temp, tail and usable; requested, used and count of each of the six
 // kinds; kind, size and alignment; and the room for the ledger's text. Of each the answer and the sections are written, and then the ledger's text or `no
 // room`, so that no expected value stands in the program.
+#![tactic(auto)]
+
 mod read;
 
 ghost use Rattle.std.specs.Prelude.{◌≡◌, length};

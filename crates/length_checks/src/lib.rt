@@ -1,5 +1,7 @@
 // The checks 1, 2 and 3 (document 01, "Answer numbers"), with which the entry points over tables begin. What is long enough or too many is for each of them
 // to say; which number is told is said here.
+#![tactic(auto)]
+
 ghost use Rattle.std.specs.Prelude.{◌≡◌};
 ghost use Rattle.length_checks.specs.LengthChecks.{lengths_of};
 

@@ -1,6 +1,8 @@
 // Makes a request sheet of a text. A line of it is `space N` or a row, and `#` starts a comment. The rows are all `size first last offset`, which gives a
 // sheet of version 1, or all `shape code first last offset dimension ..`, with up to eight dimensions, which gives one of version 2. The sheet goes to
 // standard output; for a text that is none, one line goes there that tells what is wrong and where. What the numbers mean is left to the planner.
+#![tactic(auto)]
+
 use libc::STDIN_FILENO;
 use refusal::Reason;
 use sheet::{Progress, Step};

@@ -1,7 +1,7 @@
 // Why a text gives no sheet.
 use libc::STDOUT_FILENO;
 
-#[derive(Drop)]
+#[derive(Clone, Copy)]
 pub enum Reason {
     NotRow,
     NotShape,

@@ -6,7 +6,7 @@ use libc::STDOUT_FILENO;
 use units::Row;
 
 // What the lines so far gave, beside the rows' bytes.
-#[derive(Drop)]
+#[derive(Clone, Copy)]
 pub struct Progress {
     // The row that comes next.
     pub next: Row,
@@ -18,7 +18,7 @@ pub struct Progress {
 }
 
 // What comes of a line.
-#[derive(Drop)]
+#[derive(Clone, Copy)]
 pub enum Step {
     Taken(Progress),
     Refused(Reason),

@@ -28,31 +28,7 @@ use Rattle.access_rule.proofs.GoodScripts.{access_says}
 use Rattle.access_rule.specs.Script.{final_bytes}
 use Rattle.model_outputs.specs.OutputsRead.{FromLifetimes, ReadsOutput, GoodOrReads}
 use Rattle.model_outputs.proofs.OutputsRead.{outputs_read_at_grid}
-
--- Operator, tensor, role.
-abbrev uses : List ℤ
-uses = pos 0 ∷ pos 0 ∷ pos writes ∷ pos 0 ∷ pos 0 ∷ pos model_output ∷ pos 1 ∷ pos 1 ∷ pos writes ∷ []
-
--- Room for two lives.
-abbrev lifetimes : List ℤ
-lifetimes = replicate 4 (pos 0)
-
--- Size, first moment, last moment; placed by us.
-abbrev table : List ℤ
-table = pos 16 ∷ pos 0 ∷ pos 1 ∷ negsuc 0 ∷ pos 16 ∷ pos 1 ∷ pos 1 ∷ negsuc 0 ∷ []
-
-abbrev offsets : List ℤ
-offsets = pos 0 ∷ pos 16 ∷ []
-
--- Moment, row, index, value: byte 3 of the output is written, byte 3 of the other tensor, and at the last moment that of the output is read.
-abbrev script : List ℤ
-script = pos 0 ∷ pos 0 ∷ pos 3 ∷ pos 7 ∷ pos 1 ∷ pos 1 ∷ pos 3 ∷ pos 8 ∷ pos 1 ∷ pos 0 ∷ pos 3 ∷ negsuc 0 ∷ []
-
-abbrev arena : List ℕ
-arena = replicate 32 85
-
-abbrev bytes : List ℕ
-bytes = replicate 3 170
+use Rattle.model_outputs.specs.OutputsExample.{uses, lifetimes, table, offsets, script, arena, bytes}
 
 -- The table has the lives of the uses.
 from_lifetimes : FromLifetimes 2 2 uses lifetimes table

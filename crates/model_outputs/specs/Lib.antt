@@ -1,1 +1,2 @@
 pub mod OutputsRead
+pub mod OutputsExample

@@ -1,4 +1,6 @@
 // The checks of an offline plan that is to be read (document 01), and where its words stand. All is total: any bytes, any count, any room.
+#![tactic(auto)]
+
 ghost use Rattle.std.specs.Prelude.{◌≡◌};
 ghost use Rattle.word_bytes.specs.Bytes.{word_of};
 ghost use Rattle.offline_rule.specs.OfflinePlan.{count_place, is_number, read_of};

@@ -1,5 +1,7 @@
 // The offline plan's words (document 01): signed little-endian words in a model's metadata, version, number of subgraphs, n, then n offsets. The first two
 // are ignored on reading and written as 1 and 1; any offset word is handed on as it stands.
+#![tactic(auto)]
+
 ghost use Rattle.std.specs.Prelude.{◌≡◌, length};
 ghost use Rattle.word_lists.specs.WordLists.{with_words};
 ghost use Rattle.offline_rule.specs.Answers.{Writable};

@@ -1,5 +1,7 @@
 // The checks 1, 2, 3 and 5 of the lives (document 01, "The desk's order of checks", Lives), and the limits of the operator list. All is total: any list,
 // any numbers of operators and tensors, any room.
+#![tactic(auto)]
+
 ghost use Rattle.std.specs.Prelude.{◌≡◌};
 ghost use Rattle.lifetime_rule.specs.FromUses.{sizes_of, list_of};
 

@@ -1,5 +1,7 @@
 // The plan inspector: judges a plan that anyone may have proposed, one offset for each row of the request table (document 01, "The desk's order of
 // checks"). All is read where it lies; nothing is written.
+#![tactic(auto)]
+
 ghost use Rattle.std.specs.Prelude.{◌≤◌, ◌≡◌};
 ghost use Rattle.request_table.specs.Buffers.{buffer_at};
 ghost use Rattle.request_table.specs.Limits.{grid as gridOf, greatest_rows};

@@ -1,4 +1,6 @@
 // Plans a request sheet: standard input to standard output. All that matters is in `request_sheet`.
+#![tactic(auto)]
+
 use libc::{STDIN_FILENO, STDOUT_FILENO};
 use request_sheet::{GREATEST_SHEET, GREATEST_TEXT};
 

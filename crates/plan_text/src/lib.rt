@@ -1,5 +1,7 @@
 // The text of an answer (document 01, "The request sheet"), written into lent bytes. Each function that puts a line asks for its room and answers where
 // the next line starts; the two public ones look for the room of any text first, so that no text is ever cut.
+#![tactic(auto)]
+
 ghost use Rattle.std.specs.Prelude.{◌+◌, ◌*◌, ◌≤◌, true, ◌≡◌, length};
 ghost use Rattle.request_table.specs.Limits.{greatest_rows};
 ghost use Rattle.text_pieces.specs.Put.{Put, Room};

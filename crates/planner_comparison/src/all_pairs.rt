@@ -3,7 +3,7 @@ use crate::{numbers, rows, table};
 use answer::Answer;
 
 // Where no two rows meet, the first of the pair is the number of rows.
-#[derive(Drop)]
+#[derive(Clone, Copy)]
 pub struct Pair {
     pub a: u64,
     pub b: u64,

@@ -27,7 +27,7 @@ fn inspect(requests: &[i32], space: u32, offsets: &[i32], tally: &mut [u64]) {
 }
 
 // What a planner answers and leaves.
-#[derive(Drop)]
+#[derive(Clone, Copy)]
 struct Planned {
     answer: Answer,
     offsets: [i32; changes::OFFSETS],

@@ -1,5 +1,7 @@
 // Compares the planner with a second one and the inspector with a test of all pairs, on many tables, and prints what was met and how often they disagree.
 // Every number printed is counted.
+#![tactic(auto)]
+
 mod all_pairs;
 mod changes;
 mod compare;

@@ -3,7 +3,7 @@ use crate::{numbers, table};
 use answer::Answer;
 
 // A row's four words.
-#[derive(Drop)]
+#[derive(Clone, Copy)]
 pub struct Request {
     pub size: i32,
     pub first: i32,

@@ -1,4 +1,6 @@
 // Prints the ledger after document 01's first keep: 10 bytes at alignment 8, from an arena of 2,048 bytes at start 1003, recorded as kind 0.
+#![tactic(auto)]
+
 use arena_sections::Sections;
 use ledger_text::GREATEST_LEDGER_TEXT;
 use libc::STDOUT_FILENO;

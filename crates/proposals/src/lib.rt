@@ -1,5 +1,7 @@
 // A proposed plan, row by row (document 01, "The desk's order of checks"): the offset of a row, the lowest fixed row that was moved and the lowest row
 // whose offset is off the grid. All is total: any table, any proposal, any row, any grid.
+#![tactic(auto)]
+
 ghost use Rattle.std.specs.Prelude.{◌<◌, ◌^◌, ◌≡◌};
 ghost use Rattle.bounded.specs.First.{first_in};
 ghost use Rattle.request_table.specs.Table.{rows as rows_of};

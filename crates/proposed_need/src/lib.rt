@@ -1,4 +1,6 @@
 // The need of a proposed plan, in 64 bits. All is total: any grid, any table, any offsets.
+#![tactic(auto)]
+
 ghost use Rattle.std.specs.Prelude.{max, ◌≡◌};
 ghost use Rattle.request_table.specs.Buffers.{buffer_at, end_or_zero};
 ghost use Rattle.inspection_rule.specs.Inspect.{proposed, proposed_need};

@@ -1,10 +1,12 @@
 // The ledger of persistent allocations (document 02, order 4), beside the arena's sections: what it holds and what an allocation through it hands back.
 // What they mean is in specs/. The words are those of TensorFlow Lite Micro's recording allocator.
+#![tactic(auto)]
+
 use answer::Answer;
 use arena_sections::Sections;
 
 // What was recorded of one kind: the bytes asked for, the bytes taken with the gaps between them, and how many allocations they were.
-#[derive(Drop)]
+#[derive(Clone, Copy)]
 pub struct RecordedAllocation {
     pub requested: u32,
     pub used: u32,
@@ -12,7 +14,7 @@ pub struct RecordedAllocation {
 }
 
 // What was recorded of each kind, by its code.
-#[derive(Drop)]
+#[derive(Clone, Copy)]
 pub struct Ledger {
     pub kinds: [RecordedAllocation; 6],
 }
@@ -45,7 +47,7 @@ impl Ledger {
 }
 
 // A recorded allocation's answer, with the next state and the next ledger.
-#[derive(Drop)]
+#[derive(Clone, Copy)]
 pub struct Recording {
     pub answer: Answer,
     pub sections: Sections,

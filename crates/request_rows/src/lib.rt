@@ -1,5 +1,7 @@
 // The rows of the request table (document 01, "Requests and the greedy rule"): a row from its words, whether it is good, the lowest that is not. All is
 // total: any table, any row, any grid.
+#![tactic(auto)]
+
 ghost use Rattle.std.specs.Prelude.{◌<◌, ◌≡◌};
 ghost use Rattle.bounded.specs.First.{first_in};
 ghost use Rattle.words.specs.Words.{word_at};

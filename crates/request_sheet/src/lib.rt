@@ -1,5 +1,7 @@
 // The reply to a request sheet (document 01, "The request sheet"; document 02, order 1, for version 2): the sheet is read, its shapes sized where it has
 // them, its table planned and the answer told as text. Reading a sheet and writing a text are crates that do not know each other.
+#![tactic(auto)]
+
 ghost use Rattle.std.specs.Prelude.{◌*◌, ◌%◌, ◌≤◌, ◌≡◌, length};
 ghost use Rattle.text_rule.specs.Text.{greatest_text};
 ghost use Rattle.request_table.specs.Limits.{greatest_rows};

@@ -1,5 +1,7 @@
 // The rows of the request table, and how many there may be. What they mean is in specs/: good rows, occupied sizes, colliding, the need and the checks
 // 1 to 5.
+#![tactic(auto)]
+
 use units::{Moment, Offset};
 
 // A row of the table is this many words: size, first moment, last moment, fixed offset.
@@ -10,7 +12,7 @@ pub const GREATEST_ROWS: usize = 1024;
 pub const GREATEST_SPACE: u32 = 16777216;
 
 // One row of the table. The offset of a row that is not fixed says nothing.
-#[derive(Drop)]
+#[derive(Clone, Copy)]
 pub struct Request {
     pub size: u32,
     pub first: Moment,
@@ -20,7 +22,7 @@ pub struct Request {
 }
 
 // A row at an offset: document 01's span, with the row's life.
-#[derive(Drop)]
+#[derive(Clone, Copy)]
 pub struct Buffer {
     pub first: Moment,
     pub last: Moment,

@@ -1,5 +1,7 @@
 // The checks 1 to 5 of the request table (document 01, "The desk's order of checks"), with which every planner and the inspector begin. All is total: any
 // table, any space, any room, any grid.
+#![tactic(auto)]
+
 ghost use Rattle.std.specs.Prelude.{◌≤◌, ◌≡◌};
 ghost use Rattle.request_table.specs.Limits.{greatest_rows};
 ghost use Rattle.request_table.specs.Table.{rows as rows_of};

@@ -1,5 +1,7 @@
 // A request table from a table of shapes (document 02, order 1): thirteen words a row, type code, number of dimensions, eight dimensions, first, last and
 // offset. Each row's size is its shape's; its first, last and offset are taken as they are, and judged by whoever plans the requests.
+#![tactic(auto)]
+
 ghost use Rattle.std.specs.Prelude.{◌*◌, ◌/◌, ◌%◌, ◌≤◌, ◌<◌, ◌≡◌, length};
 ghost use Rattle.bounded.specs.Replaced.{replaced};
 ghost use Rattle.request_table.specs.Limits.{greatest_rows};

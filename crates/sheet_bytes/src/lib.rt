@@ -1,5 +1,7 @@
 // The request sheet's bytes (document 01, "The request sheet"; document 02, order 1, for version 2) as a table of requests or of shapes, and a space. What
 // is made of them is not known here.
+#![tactic(auto)]
+
 ghost use Rattle.std.specs.Prelude.{◌≤◌, ◌++◌, ◌≡◌, length, drop};
 ghost use Rattle.word_lists.specs.WordLists.{words_from};
 ghost use Rattle.sheet_rule.specs.Sheet.{marked, row_words, well_formed, sheet_of, words_read};

@@ -1,5 +1,7 @@
 // Words of 32 bits put into little-endian bytes, as `word_bytes` reads them. Every call is allowed: a byte outside the slice is not written, and no place
 // is too far on.
+#![tactic(auto)]
+
 ghost use Rattle.std.specs.Prelude.{◌≡◌, ◌+◌, set};
 ghost use Rattle.word_bytes.specs.Bytes.{unsigned_word, with_word};
 

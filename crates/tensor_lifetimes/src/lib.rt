@@ -1,5 +1,7 @@
 // Lives from an operator list (document 01, "The desk's order of checks", Lives; of model outputs, document 02, order 2): one pass over the uses gathers
 // what they say of each tensor, and one more finds the lowest use that reads too early. The documents' life is a lifetime here.
+#![tactic(auto)]
+
 mod gather;
 
 ghost use Rattle.std.specs.Prelude.{◌*◌, ◌≤◌, ◌≡◌, length};

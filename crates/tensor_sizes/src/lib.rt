@@ -1,5 +1,7 @@
 // Sizes from shape and type (document 02, order 1): the bytes of a tensor of so many elements. What a shape or a code means beyond its size is not known
 // here.
+#![tactic(auto)]
+
 ghost use Rattle.std.specs.Prelude.{◌≡◌, min, ◌+◌, ◌*◌, ◌≤◌, ◌<◌};
 ghost use Rattle.request_table.specs.Limits.{greatest_space};
 ghost use Rattle.tensor_sizes.specs.ByteSize.{elements as elements_of, has_negative, elements_size_of, byte_size_of};

@@ -1,12 +1,14 @@
 // Texts in lent bytes, piece after piece. Each function puts its piece whole where there is room for it, and answers where the next one starts; where there
 // is none, nothing changes and the next one starts where this one was to.
+#![tactic(auto)]
+
 ghost use Rattle.std.specs.Prelude.{◌++◌, ◌≡◌};
 ghost use Rattle.decimal_text.specs.Decimal.{decimal};
 ghost use Rattle.text_pieces.specs.Put.{Put, Room, has_room, end_with, bytes_with};
 ghost use Rattle.text_pieces.specs.Replied.{told_in};
 
 // What asking for a text comes to: so many bytes of text, or too few bytes were lent, which is number 3.
-#[derive(Drop)]
+#[derive(Clone, Copy)]
 pub enum Reply {
     Text(usize),
     NoRoom,

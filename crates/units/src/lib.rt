@@ -1,17 +1,18 @@
 // Kinds of number that cannot be mixed by mistake (document 01, "Requests and the greedy rule").
+#![tactic(auto)]
 
 // A moment of a tensor's life: the number of an operator.
-#[derive(Drop)]
+#[derive(Clone, Copy)]
 pub struct Moment(pub u32);
 
 // A place in the arena, in bytes from its start. 64 bits: 256 tensors of the largest size over one another pass 32.
-#[derive(Drop)]
+#[derive(Clone, Copy)]
 pub struct Offset(pub u64);
 
 // The number of a row of the request table.
-#[derive(Drop)]
+#[derive(Clone, Copy)]
 pub struct Row(pub usize);
 
 // The number of a tensor of the operator list.
-#[derive(Drop)]
+#[derive(Clone, Copy)]
 pub struct Tensor(pub usize);

@@ -1,5 +1,7 @@
 // The uses of the operator list (document 01, "The desk's order of checks", Lives): a use from its words, whether it is good, the lowest that is not. All
 // is total: any list, any use, any numbers of operators and tensors.
+#![tactic(auto)]
+
 ghost use Rattle.std.specs.Prelude.{◌≡◌};
 ghost use Rattle.bounded.specs.First.{first_in};
 ghost use Rattle.lifetime_rule.specs.Uses.{count as count_of, use_at, good, bad_use};

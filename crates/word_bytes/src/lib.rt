@@ -1,5 +1,7 @@
 // Little-endian bytes as words of 32 bits. Every call is allowed: a byte outside the slice reads as 0, and no place is too far on, so that no caller has
 // a bound to show before it reads.
+#![tactic(auto)]
+
 ghost use Rattle.std.specs.Prelude.{◌≡◌, ◌+◌, get_or};
 ghost use Rattle.word_bytes.specs.Bytes.{little_endian, signed_word, word_of};
 

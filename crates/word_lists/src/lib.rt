@@ -1,5 +1,7 @@
 // Tables of signed words in bytes, four little-endian bytes a word, from the first byte on. Every call is allowed: past the end of the bytes a word
 // reads as 0, and a byte that is not there is not set.
+#![tactic(auto)]
+
 ghost use Rattle.std.specs.Prelude.{◌≡◌, ◌*◌, length};
 ghost use Rattle.word_bytes.specs.Bytes.{word_of, with_word};
 ghost use Rattle.word_lists.specs.WordLists.{words_from, with_words};

@@ -16,7 +16,7 @@ use Rattle.words.specs.Words.{natural, is_minus_one}
 
 -- A word that was read is itself.
 pub read : (x : ℤ) → mag x < 2 ^ 31 → to_z w32 (of_z w32 x) ≡ x
-read x h = to_z-of_z (sfits_of h)
+read x h = to_z-of_z {w = w32} (sfits_of h)
 
 -- A negative word stands above every limit.
 pub negative : (x : ℤ) → lt_z x (pos 0) ≡ true → 4294967295 ≡ natural x

@@ -1,12 +1,14 @@
 // Signed 32-bit words at the edge: here they become natural numbers, with which all that judges or plans works.
 // Each takes the slice and the place, and a place outside the slice reads as 0, as getD has it, so that any call is allowed.
+#![tactic(auto)]
+
 ghost use Rattle.std.specs.Prelude.{◌≡◌, pos};
 ghost use Rattle.std.specs.Int.Signed.{lt_z};
-ghost use Rattle.words.specs.Words.{word_at, natural as naturalOf, is_minus_one};
+ghost use Rattle.words.specs.Words.{word_at, natural as natural_of, is_minus_one};
 
 // The word as a natural number; a negative one stands as 4,294,967,295, which is above every limit.
 pub fn natural(table: &[i32], at: usize) -> u32
-    ensures { result ≡ naturalOf (word_at table.now at) }
+    ensures { result ≡ natural_of (word_at table.now at) }
 {
     if at < table.len() {
         let word = table[at];

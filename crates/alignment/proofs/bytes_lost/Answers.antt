@@ -1,0 +1,18 @@
+-- `alignment::bytes_lost` meets its contract.
+use Rattle.std.proofs.Common.{refl, le_of_lt, mod-lt, arith, Fits-le, Fits-lit, rules}
+use lib.Bits.{and_le_r}
+use mir.Facts.{Fits-lt}
+use Rattle.alignment.specs.Alignments.{loss}
+use Rattle.alignment.proofs.Masks.{loss_by_bits}
+use Rattle.alignment.proofs.NoGrid.{none_lost}
+use Rattle.alignment.proofs.bytes_lost.Goals as goal
+
+pub returns-in-16 : goal.returns-in-16
+returns-in-16 c = rw c.in-16.keys1 (loss_by_bits 60 4 _ c.args.start c.wrapping_sub_u64.ensures)
+
+pub returns-in-0 : goal.returns-in-0
+returns-in-0 c = let a = c.args in none_lost a.grid a.start c.in-0.keys2
+
+pub returns-in_default : goal.returns-in_default
+unfolding loss
+returns-in_default c = refl

@@ -1,0 +1,16 @@
+-- `alignment::round_up` meets its contract.
+use Rattle.std.proofs.Common.{refl, div-mul-le_self, arith, Fits-le, rules}
+use Rattle.alignment.specs.Rounding.{rounded_up}
+use Rattle.alignment.proofs.Masks.{up_by_bits}
+use Rattle.alignment.proofs.NoGrid.{up_to_none}
+use Rattle.alignment.proofs.round_up.Goals as goal
+
+pub returns-in-16 : goal.returns-in-16
+returns-in-16 c = rw c.in-16.keys1 (up_by_bits 60 4 c.args.number (omega arith))
+
+pub returns-in-0 : goal.returns-in-0
+returns-in-0 c = let a = c.args in up_to_none a.grid a.number c.in-0.keys2
+
+pub returns-in_default : goal.returns-in_default
+unfolding rounded_up
+returns-in_default c = refl
