@@ -6,10 +6,10 @@ use Rattle.alignment.proofs.NoGrid.{down_to_none}
 use Rattle.alignment.proofs.round_down.Goals as goal
 
 pub returns-in-16 : goal.returns-in-16
-returns-in-16 c = rw c.in-16.keys1 (down_by_bits 28 4 c.args.number (omega arith))
+returns-in-16 c = rw c.in-16.is (down_by_bits 28 4 c.args.number (omega arith))
 
 pub returns-in-0 : goal.returns-in-0
-returns-in-0 c = let a = c.args in down_to_none a.grid a.number c.in-0.keys2
+returns-in-0 c = let a = c.args in down_to_none a.grid a.number c.in-0.is
 
 pub returns-in_default : goal.returns-in_default
 unfolding rounded_down
