@@ -1,5 +1,5 @@
 -- Laws of the definitions of specs/Kinds.antt.
-use Rattle.std.specs.Prelude.{ℕ, zero, suc, ◌<◌, ◌≡◌, refl}
+use Rattle.std.specs.Prelude.{ℕ, zero, suc, ◌<◌, refl}
 use Rattle.std.proofs.Common.{arith}
 use Rattle.recording_rule.specs.Ledger.{kind_count}
 use Rattle.recording_rule.specs.Kinds.{Kind, Named, code_of, node_and_registration_struct, operator_runtime_data, persistent_tflite_tensor_data, persistent_tflite_tensor_quantization_data, tflite_eval_tensor_data, tflite_tensor_variable_buffer_data}
