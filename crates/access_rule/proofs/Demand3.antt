@@ -1,5 +1,5 @@
 -- Laws of the definitions of specs/Demand3.antt.
-use Rattle.std.specs.Prelude.{ℕ, ◌+◌, ◌%◌, ◌<◌, ◌≤◌, Bool, List, ◌⊎◌, ◌↔◌, ◌≡◌, leb, ℤ, pos, length, get_or}
+use Rattle.std.specs.Prelude.{ℕ, ◌+◌, ◌<◌, ◌≤◌, Bool, List, ◌⊎◌, ◌≡◌, leb, ℤ, pos, length, get_or}
 use Rattle.std.proofs.Math.Bool.{true, false, not}
 use Rattle.std.proofs.Common.{inl, inr, ◌∙◌, ap₂, arith}
 use Rattle.std.proofs.Math.Path.{refl, sym, ap, subst}

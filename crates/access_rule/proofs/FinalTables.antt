@@ -1,5 +1,5 @@
 -- Laws of the definitions of specs/FinalTables.antt.
-use Rattle.std.specs.Prelude.{ℕ, ◌<◌, ◌≤◌, List, ◌≡◌, ℤ, length, get_or}
+use Rattle.std.specs.Prelude.{ℕ, ◌<◌, List, ℤ, length, get_or}
 use Rattle.std.proofs.Common.{sym, ◌∙◌, ap, arith}
 use Rattle.answer.specs.Answer.{number_of}
 use Rattle.bounded.proofs.Replaced.{replaced_length, replaced_at, replaced_past}

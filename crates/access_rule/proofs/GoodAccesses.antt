@@ -1,5 +1,5 @@
 -- Laws of the definitions of specs/GoodAccesses.antt.
-use Rattle.std.specs.Prelude.{ℕ, ◌<◌, ◌≤◌, true, List, ◌≡◌, ℤ}
+use Rattle.std.specs.Prelude.{ℕ, ◌≤◌, true, List, ◌≡◌, ℤ}
 use borrow.Author.Tests.{ltb-true, leb-true, lt-ltb, le-leb}
 use Rattle.bounded.proofs.Boolean.{both, both_hold}
 use Rattle.access_rule.specs.Accesses.{access, moment_before, reaches, good}

@@ -1,5 +1,5 @@
 -- Laws of the definitions of specs/OneHolder.antt.
-use Rattle.std.specs.Prelude.{ℕ, ◌+◌, ◌<◌, ◌≤◌, List, ◌⊎◌, ◌≡◌, ℤ}
+use Rattle.std.specs.Prelude.{ℕ, ◌<◌, ◌≤◌, List, ◌⊎◌, ◌≡◌, ℤ}
 use Rattle.std.proofs.Common.{inl, inr, arith}
 use Rattle.bounded.proofs.Boolean.{lt_or_le}
 use Rattle.request_table.specs.Buffers.{buffer_at}

@@ -1,5 +1,5 @@
 -- Laws of the definitions of specs/Ready.antt.
-use Rattle.std.specs.Prelude.{ℕ, ◌<◌, ◌≤◌, List, ◌≡◌, ℤ}
+use Rattle.std.specs.Prelude.{ℕ, ◌<◌, List, ℤ}
 use Rattle.std.proofs.Common.{arith}
 use Rattle.access_rule.proofs.Answers.{Done}
 use Rattle.access_rule.proofs.GoodAccesses.{good_says}

@@ -1,7 +1,6 @@
 -- The script's answer as the code comes to it: a refusal of the checks 1 to 3 stands; past them a refusal of the inspector stands; past both the arena and
 -- the touches decide. And what a done answer says.
-use Rattle.std.specs.Prelude.{ℕ, ◌<◌, ◌≤◌, ◌%◌, List, ◌++◌, ◌≡◌, ℤ, length}
-use Rattle.std.proofs.Common.{◌∙◌}
+use Rattle.std.specs.Prelude.{ℕ, ◌≤◌, ◌%◌, List, ◌≡◌, ℤ, length}
 use Rattle.request_table.specs.Limits.{greatest_rows}
 use Rattle.request_table.specs.Table.{rows}
 use Rattle.access_rule.specs.Accesses.{greatest_accesses, count}

@@ -5,8 +5,7 @@
 -- the others wrote between. A byte not yet written through that tensor in the run carries no such promise."
 --
 -- One law over whole scripts, by positions in the script. It stands on the inspector's exact rule (`ExactRule`) and on nothing else.
-use Rattle.std.specs.Prelude.{ℕ, ◌+◌, ◌%◌, ◌<◌, ◌≤◌, List, ◌⊎◌, ◌↔◌, ◌≡◌, ℤ, pos, negsuc, length, get_or}
-use Rattle.std.proofs.Common.{◌∙◌}
+use Rattle.std.specs.Prelude.{ℕ, ◌+◌, ◌%◌, ◌<◌, ◌≤◌, List, ◌↔◌, ◌≡◌, ℤ, pos, negsuc, length, get_or}
 use Rattle.answer.specs.Answer.{done_with, refused_at, bad_access as bad_access_number}
 use Rattle.bounded.specs.Lowest.{Lowest}
 use Rattle.words.specs.Words.{natural}

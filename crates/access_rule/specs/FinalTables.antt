@@ -1,7 +1,6 @@
 -- Law: what a script that is done leaves: "Each answer byte is the byte read or written; the arena ends as the writes leave it, and bytes not written
 -- stay." That a refusal leaves all as lent is `refusal_keeps` (`Answers`) and, for bad touches, part of demand 3.
 use Rattle.std.specs.Prelude.{ℕ, ◌<◌, ◌≤◌, List, ◌≡◌, ℤ, length, get_or}
-use Rattle.std.proofs.Common.{◌∙◌}
 use Rattle.access_rule.specs.Accesses.{count}
 use Rattle.access_rule.specs.Demand3.{Writes, falls_on}
 use Rattle.access_rule.specs.Script.{final_arena, final_bytes}

@@ -1,5 +1,5 @@
 -- What the test for a good touch says, in orders of natural numbers.
-use Rattle.std.specs.Prelude.{ℕ, ◌<◌, ◌≤◌, true, List, ◌≡◌, ℤ}
+use Rattle.std.specs.Prelude.{◌<◌, ◌≤◌, true, List, ◌≡◌, ℤ}
 use Rattle.request_table.specs.Table.{rows, request}
 use Rattle.access_rule.specs.Accesses.{allowed}
 use Rattle.access_rule.specs.declared.Access.{Access}

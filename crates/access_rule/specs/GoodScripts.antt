@@ -1,9 +1,7 @@
 -- Good scripts over signed words, as document 01 writes them: moments never go back, and each touch is a byte of a row alive then. The definition, which
 -- reads a negative word as a number above every limit, calls the same touch the lowest bad one.
-use Prim.Native.Nat.{ℕ, ◌<◌, ◌≤◌}
-use Rattle.std.specs.Prelude.{◌||◌, List, ◌⊎◌, ◌≡◌, ℤ, negsuc, ◌≤ℤ◌, ◌<ℤ◌}
-use Rattle.std.proofs.Common.{leb→le}
-use Rattle.std.proofs.Math.Logic.{⊎_elim}
+use Prim.Native.Nat.{ℕ, ◌<◌}
+use Rattle.std.specs.Prelude.{List, ◌≡◌, ℤ, negsuc, ◌≤ℤ◌, ◌<ℤ◌}
 use Rattle.std.proofs.Math.IntN.{pos}
 use Rattle.request_table.specs.Table.{rows, word}
 use Rattle.access_rule.specs.Accesses.{count}

@@ -1,5 +1,5 @@
 -- Law: in an accepted plan no byte is held by two rows at one moment.
-use Rattle.std.specs.Prelude.{ℕ, ◌+◌, ◌<◌, ◌≤◌, List, ◌⊎◌, ◌≡◌, ℤ}
+use Rattle.std.specs.Prelude.{ℕ, ◌+◌, ◌<◌, ◌≤◌, List, ℤ}
 use Rattle.request_table.specs.Table.{rows, request}
 use Rattle.inspection_rule.specs.Inspect.{proposed}
 

@@ -63,7 +63,7 @@ fn fits(body: &[u8], kinds: &[u8]) -> bool {
 // Whether the line is a vector of the row's function.
 fn is_vector(line: &[u8], row: &[u8]) -> bool {
     let name = text::part(text::part(line, 0, b':'), 0, b' ');
-    let named = check::same(name, text::part(row, 0, b':'));
+    let named = name == text::part(row, 0, b':');
     if named & (text::last(line, b':') == 1) {
         return fits(text::part(line, 1, b':'), text::part(row, 1, b':'));
     }

@@ -62,7 +62,7 @@ fn in_rows(row: &[u8], width: usize, place: usize) -> Word
     requires { 0 < width }
 {
     let column = text::part(row, place % width, b',');
-    if check::same(column, b"i") {
+    if column == b"i".as_slice() {
         return counted(place / width);
     }
     decimal_text::signed(column)

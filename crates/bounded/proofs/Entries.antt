@@ -1,5 +1,5 @@
 -- Laws of the definitions of specs/Entries.antt.
-use Rattle.std.specs.Prelude.{ℕ, zero, suc, ◌<◌, List, ◌∷◌}
+use Rattle.std.specs.Prelude.{zero, suc, List, ◌∷◌}
 use Rattle.std.proofs.Common.{le_of_suc-le-suc, arith}
 use Rattle.bounded.specs.Entries.{Each, EachTwo}
 

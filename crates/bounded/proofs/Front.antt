@@ -1,5 +1,5 @@
 -- A list put over the first entries of another: xs ++ drop n ys, where xs has n entries. What stands behind them stays.
-use Rattle.std.specs.Prelude.{ℕ, ◌+◌, ◌-◌, ◌<◌, ◌≤◌, List, ◌++◌, ◌≡◌, length, get_or, drop}
+use Rattle.std.specs.Prelude.{ℕ, ◌-◌, ◌<◌, ◌≤◌, List, ◌++◌, ◌≡◌, length, get_or, drop}
 use Rattle.std.proofs.Common.{◌∙◌, ap, arith, length-append, length-drop, get_or-append-add, get_or-drop}
 use Rattle.std.proofs.Math.ListN.{get_or-append}
 

@@ -1,6 +1,6 @@
 -- Laws of the definitions of specs/Listed.antt.
 use Prim.Native.Nat.{ℕ, zero, suc, ◌+◌, ◌<◌, ◌≤◌}
-use Rattle.std.specs.Prelude.{List, [], ◌∷◌, ◌≡◌, length, get_or, take}
+use Rattle.std.specs.Prelude.{List, ◌≡◌, length, get_or, take}
 use Rattle.std.proofs.Math.Path.{refl, ap}
 use Rattle.std.proofs.Common.{sym, ◌∙◌, arith, length-take-le, get_or-take, ext_get_or}
 use Rattle.bounded.specs.Replaced.{replaced}

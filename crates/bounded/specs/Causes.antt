@@ -1,6 +1,6 @@
 -- An entry point's order of checks: a list of causes, each a test with the answer that it gives. The first that holds is given.
 -- Generic in the answer; `number` tells a refusal from a done answer, whose number is 0.
-use Rattle.std.specs.Prelude.{ℕ, Bool, true, false, List, [], ◌∷◌, ◌++◌, ◌≡◌}
+use Rattle.std.specs.Prelude.{ℕ, Bool, true, false, List, [], ◌∷◌, ◌≡◌}
 
 -- A cause of refusal, and the answer that it gives.
 pub record Cause (A : Type 0) : Type 0 where
@@ -12,7 +12,6 @@ abbrev pub ◌⇒◌ : {A : Type 0} → Bool → A → Cause A
 b ⇒ x = record { holds = b; gives = x }
 
 infix 20 ◌⇒◌
-
 -- The answer of the first cause that holds, else the answer that follows.
 abbrev pub first_cause : {A : Type 0} → List (Cause A) → A → A
 first_cause [] d = d

@@ -1,8 +1,7 @@
 -- How many indices below a bound pass a test.
 --     count p n          the number of k < n at which p holds
 -- A loop starts by `count_none` and turns by `count_yes` and `count_no`.
-use Rattle.std.specs.Prelude.{ℕ, zero, suc, ◌+◌, ◌<◌, ◌≤◌, Bool, true, false, ◌&&◌, ◌≡◌}
-use Rattle.std.proofs.Common.{⊎_elim}
+use Rattle.std.specs.Prelude.{ℕ, zero, suc, ◌+◌, Bool, true, false}
 
 -- One where the test holds, else nothing.
 unfoldable pub one : Bool → ℕ

@@ -2,7 +2,7 @@
 --     Each So xs d       So of the entry at each index
 --     EachTwo So xs d    So of the entries at any two indices i < j
 -- d is what stands past the end of the list, where no index of these reaches. A list grows in front by `each_more` and `two_more`.
-use Rattle.std.specs.Prelude.{ℕ, ◌<◌, List, ◌∷◌, length, get_or}
+use Rattle.std.specs.Prelude.{ℕ, ◌<◌, List, length, get_or}
 
 -- It is so of every entry.
 abbrev pub Each : {A : Type 0} → (A → Type 0) → List A → A → Type 0

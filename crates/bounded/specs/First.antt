@@ -4,8 +4,7 @@
 -- A reader believes these by `first_is` and `least_is`, which mention no search. A loop uses `Scan p s n i`: the scan from s has come to i and
 -- found nothing; `scan` starts it, `pass` is one more turn, `hit` leaves it early, `out` runs it to the end.
 use Prim.Native.Nat.{ℕ, zero, suc, ◌+◌, ◌-◌, ◌<◌, ◌≤◌}
-use Rattle.std.specs.Prelude.{Bool, true, false, ◌||◌, ◌⊎◌, ◌≡◌, ltb}
-use Rattle.std.proofs.Common.{⊎_elim, ◌∙◌}
+use Rattle.std.specs.Prelude.{Bool, true, false, ◌≡◌, ltb}
 
 -- The search from i over the next k indices.
 unfoldable pub first_from : (ℕ → Bool) → ℕ → ℕ → ℕ

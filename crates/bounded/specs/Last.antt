@@ -2,8 +2,7 @@
 --     lastIn p n         the greatest k < n at which p holds, else 0
 --     end_in p n          one past it; 0 where p holds nowhere
 -- A reader believes them by `last_is`, which mentions no search, and `last_before_end`. A loop keeps the end, which tells none from index 0.
-use Rattle.std.specs.Prelude.{ℕ, zero, suc, ◌+◌, ◌-◌, ◌<◌, ◌≤◌, Bool, true, false, ◌||◌, ◌≡◌}
-use Rattle.std.proofs.Common.{⊎_elim}
+use Rattle.std.specs.Prelude.{ℕ, zero, suc, ◌<◌, Bool, true, false, ◌≡◌}
 
 -- The last index below n at which the test holds, else 0.
 unfoldable pub last_in : (ℕ → Bool) → ℕ → ℕ

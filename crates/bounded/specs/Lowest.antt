@@ -1,6 +1,6 @@
 -- What a search names, in plain terms: the lowest index of which something is so, and the least pair. "So" is any statement about indices; the test
 -- that is searched decides it. `lowest_of` and `least_of` turn what a search found into these; nothing here mentions how it was found.
-use Rattle.std.specs.Prelude.{ℕ, ◌<◌, ◌≤◌, ◌⊎◌, ◌≡◌}
+use Rattle.std.specs.Prelude.{ℕ, ◌<◌, ◌≤◌}
 
 -- Index a is below n, it is so there, and at no lower index.
 pub record Lowest (So : ℕ → Type 0) (n a : ℕ) : Type 0 where

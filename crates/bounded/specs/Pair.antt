@@ -3,11 +3,9 @@
 --     pairFirst c n      its first index
 --     pairSecond c n     its second
 -- For two nested scans, the outer at a and the inner at b: `Outer` and `Inner`, with `inner_out`, `inner_hit` and `outer_out` for their ends.
-use Prim.Native.Nat.{ℕ, ◌+◌, ◌<◌, ◌≤◌}
+use Prim.Native.Nat.{ℕ, ◌+◌, ◌<◌}
 use Rattle.std.specs.Prelude.{Bool, false, ◌≡◌}
 use Rattle.std.proofs.Math.Bool.{true}
-use Rattle.std.proofs.Common.{◌∙◌}
-use Rattle.std.proofs.Math.Logic.{⊎_elim}
 use Rattle.std.proofs.Math.Dec.{ltb}
 use Rattle.bounded.specs.First.{first_in, holds_below, Scan}
 

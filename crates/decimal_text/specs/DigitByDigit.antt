@@ -1,7 +1,6 @@
 -- The number of a text, digit by digit, as it is read. The number so far is kept no greater than the one that stands for none, which no digit changes: so
 -- a text that spells no number is told without a look back. `spelled` says that what is left in the end is the number that the text spells.
-use Rattle.std.specs.Prelude.{◌≡◌, ℕ, ◌+◌, ◌-◌, ◌*◌, ◌<◌, ◌≤◌, min, true, false, ◌&&◌, ◌⊎◌, List, [], ◌∷◌, ◌≢◌}
-use Rattle.std.proofs.Common.{⊎_elim, ◌∙◌}
+use Rattle.std.specs.Prelude.{ℕ, ◌+◌, ◌-◌, ◌*◌, min, true, false, List, [], ◌∷◌}
 use Rattle.decimal_text.specs.Spelled.{no_number, is_digit}
 
 -- The number with one digit more.

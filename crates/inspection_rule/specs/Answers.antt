@@ -1,6 +1,5 @@
 -- The inspector's answer as the code comes to it, cause after cause.
-use Rattle.std.specs.Prelude.{ℕ, ◌<◌, ◌≤◌, List, ◌++◌, ◌≡◌, ℤ}
-use Rattle.std.proofs.Common.{◌∙◌}
+use Rattle.std.specs.Prelude.{ℕ, List, ℤ}
 use Rattle.answer.specs.declared.Answer.{Answer}
 use Rattle.bounded.specs.Causes.{first_cause}
 use Rattle.inspection_rule.specs.Inspect.{plan_causes, accepted_answer}

@@ -1,8 +1,7 @@
 -- Law: the inspector accepts exactly what is written out here, over the signed words of the table and the proposal: "Accepted exactly when none
 -- holds." Demand 3 stands on this rule.
-use Rattle.std.specs.Prelude.{ℕ, ◌+◌, ◌*◌, ◌/◌, ◌%◌, ◌<◌, ◌≤◌, ◌&&◌, ◌||◌, List, ◌⊎◌, ◌↔◌, ◌≡◌, ℤ, pos, negsuc, length}
+use Rattle.std.specs.Prelude.{ℕ, ◌+◌, ◌*◌, ◌<◌, ◌≤◌, List, ◌≡◌, ℤ, pos, negsuc, length}
 use Rattle.std.proofs.Math.Bool.{false}
-use Rattle.std.proofs.Common.{◌∙◌}
 use Rattle.words.specs.Words.{word_at}
 use Rattle.request_table.specs.Buffers.{occupied, buffer_at}
 use Rattle.request_table.specs.CheckLaws.{Checked}

@@ -1,7 +1,6 @@
 -- Law: what the inspector answers past the checks 1 to 5, and when: 8 and 9 with the lowest row, 7 with the need, 10 with the least pair, each only
 -- where none before it holds; else it accepts. What it answers before is `CheckOutcome`'s (`request_table`).
-use Rattle.std.specs.Prelude.{ℕ, ◌<◌, ◌≤◌, List, ◌⊎◌, ◌≡◌, ℤ, negsuc}
-use Rattle.std.proofs.Common.{◌∙◌}
+use Rattle.std.specs.Prelude.{ℕ, ◌<◌, List, ◌≡◌, ℤ, negsuc}
 use Rattle.words.specs.Words.{word_at}
 use Rattle.request_table.specs.Buffers.{buffer_at}
 use Rattle.request_table.specs.Colliding.{Colliding}

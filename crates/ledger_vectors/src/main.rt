@@ -9,16 +9,16 @@ ghost use Rattle.std.specs.Prelude.{◌≡◌, length};
 
 use arena_sections::Sections;
 use ledger_text::Reply;
-use libc::{STDIN_FILENO, STDOUT_FILENO};
 use read::VECTOR_NUMBERS;
 use recording_rule::{Ledger, Recording};
+use std::io;
 
 // The most room that a vector may give.
 const GREATEST_ROOM: usize = 300;
 
-fn print(number: u64, after: &[u8]) {
-    io::print_decimal(STDOUT_FILENO, number);
-    io::write_all(STDOUT_FILENO, after);
+fn print(rt: &impl Print, number: u64, after: &[u8]) -> io::Result<()> {
+    rt.print(number)?;
+    rt.write_all(after)
 }
 
 // Bytes to lend, of which none is a digit.
@@ -29,29 +29,29 @@ fn dots() -> [u8; GREATEST_ROOM]
 }
 
 // The answer and the sections, in a line.
-fn print_outcome(recording: Recording) {
+fn print_outcome(rt: &impl Print, recording: Recording) -> io::Result<()> {
     let answer = recording.answer;
     let sections = recording.sections;
-    print(answer.number as u64, b" ");
-    print(answer.a as u64, b" ");
-    print(answer.b as u64, b" ");
-    print(answer.need, b"; sections ");
-    print(sections.head as u64, b" ");
-    print(sections.temp as u64, b" ");
-    print(sections.tail as u64, b" ");
-    print(sections.usable as u64, b"\n");
+    print(rt, answer.number as u64, b" ")?;
+    print(rt, answer.a as u64, b" ")?;
+    print(rt, answer.b as u64, b" ")?;
+    print(rt, answer.need, b"; sections ")?;
+    print(rt, sections.head as u64, b" ")?;
+    print(rt, sections.temp as u64, b" ")?;
+    print(rt, sections.tail as u64, b" ")?;
+    print(rt, sections.usable as u64, b"\n")
 }
 
 // The ledger's text in lent bytes, all of which are written, so that those behind the text are seen to stay.
-fn print_ledger(ledger: Ledger, text: &mut [u8]) {
+fn print_ledger(rt: &impl Print, ledger: Ledger, text: &mut [u8]) -> io::Result<()> {
     if let Reply::NoRoom = ledger_text::write_ledger(ledger, text) {
-        io::write_all(STDOUT_FILENO, b"no room\n");
+        rt.write_all(b"no room\n")?;
     }
-    io::write_all(STDOUT_FILENO, text);
-    io::write_all(STDOUT_FILENO, b"\n");
+    rt.write_all(text)?;
+    rt.write_all(b"\n")
 }
 
-fn run(numbers: [u32; VECTOR_NUMBERS]) {
+fn run(rt: &impl Print, numbers: [u32; VECTOR_NUMBERS]) -> io::Result<()> {
     let sections = Sections {
         head: numbers[0],
         temp: numbers[1],
@@ -65,15 +65,16 @@ fn run(numbers: [u32; VECTOR_NUMBERS]) {
         numbers[23],
         numbers[24],
     );
-    print_outcome(recording);
+    print_outcome(rt, recording)?;
     let mut lent = dots();
     let room = numbers[25] as usize;
     if room <= GREATEST_ROOM {
-        print_ledger(recording.ledger, &mut lent[..room]);
+        print_ledger(rt, recording.ledger, &mut lent[..room])?;
     }
+    Ok(())
 }
 
-fn run_all(text: &[u8]) {
+fn run_all(rt: &impl Print, text: &[u8]) -> io::Result<()> {
     let mut numbers = [0u32; VECTOR_NUMBERS];
     let mut count = 0;
     let mut at = read::number_start(text, 0);
@@ -85,13 +86,14 @@ fn run_all(text: &[u8]) {
         if count < VECTOR_NUMBERS {
             continue;
         }
-        run(numbers);
+        run(rt, numbers)?;
         count = 0;
     }
+    Ok(())
 }
 
-fn main() {
-    let mut buffer = io::large_buffer();
-    let length = io::read_full(STDIN_FILENO, &mut buffer);
-    run_all(&buffer[..length]);
+fn main(rt: HostRuntime) -> io::Result<()> {
+    let mut buffer = read::no_input();
+    let length = read::read_full(&mut rt.stdin(), &mut buffer)?;
+    run_all(&rt, &buffer[..length])
 }

@@ -1,12 +1,37 @@
 // Numbers in a text, with anything between them. `#` starts a comment, up to the end of its line.
 ghost use Rattle.std.specs.Prelude.{◌<◌, ◌≤◌, length};
+ghost use Rattle.std.specs.Io.{ReadsAtMost};
 
 use recording_rule::{Ledger, RecordedAllocation};
+use std::io;
+use std::io::Read;
 
 // A vector has this many numbers; those of the ledger start at 4, three to a kind.
 pub const VECTOR_NUMBERS: usize = 26;
 
 const FIRST_OF_LEDGER: usize = 4;
+
+// The most bytes of input that are read.
+const INPUT_BYTES: usize = 65536;
+
+pub(crate) fn no_input() -> [u8; INPUT_BYTES] {
+    [0; INPUT_BYTES]
+}
+
+// Reads until the buffer is full or the input ends, and returns how many bytes stand at the buffer's start.
+pub(crate) fn read_full(reader: &mut impl Read, buffer: &mut [u8]) -> io::Result<usize>
+    ensures { ReadsAtMost result buffer.new }
+{
+    let mut done = 0;
+    while done < buffer.len() {
+        let count = reader.read(&mut buffer[done..])?;
+        if count == 0 {
+            break;
+        }
+        done += count;
+    }
+    Ok(done)
+}
 
 fn is_digit(byte: u8) -> bool {
     (b'0' <= byte) & (byte <= b'9')

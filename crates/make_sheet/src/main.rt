@@ -3,9 +3,12 @@
 // standard output; for a text that is none, one line goes there that tells what is wrong and where. What the numbers mean is left to the planner.
 #![tactic(auto)]
 
-use libc::STDIN_FILENO;
+ghost use Rattle.std.specs.Io.{ReadsAtMost};
+
 use refusal::Reason;
 use sheet::{Progress, Step};
+use std::io;
+use std::io::Read;
 
 mod refusal;
 mod rows;
@@ -20,21 +23,25 @@ fn no_input() -> [u8; INPUT_BYTES] {
 }
 
 // Ends a text after its last line: writes the sheet, or tells what is missing.
-fn finish(progress: Progress, rows: [u8; rows::GREATEST_BYTES], line: usize, whole: bool) {
+fn finish(
+    rt: &impl Print,
+    progress: Progress,
+    rows: [u8; rows::GREATEST_BYTES],
+    line: usize,
+    whole: bool,
+) -> io::Result<()> {
     if !whole {
-        refusal::tell(line, Reason::TooLong);
-        return;
+        return refusal::tell(rt, line, Reason::TooLong);
     }
     if !progress.given {
-        refusal::tell(line, Reason::NoSpace);
-        return;
+        return refusal::tell(rt, line, Reason::NoSpace);
     }
-    sheet::write(progress, rows);
+    sheet::write(rt, progress, rows)
 }
 
 // Writes the text's sheet, or the first refusal. Even the empty text has a line, so that there is one to name. Of a text that is not whole the last line
 // is not read: it may be cut, and might pass for another.
-fn make(text: &[u8], whole: bool) {
+fn make(rt: &impl Print, text: &[u8], whole: bool) -> io::Result<()> {
     let mut rows = [0u8; rows::GREATEST_BYTES];
     let mut progress = sheet::start();
     let mut line = 1;
@@ -46,10 +53,7 @@ fn make(text: &[u8], whole: bool) {
         }
         match sheet::with_line(progress, text::line(text, start, end), &mut rows) {
             Step::Taken(next) => progress = next,
-            Step::Refused(reason) => {
-                refusal::tell(line, reason);
-                return;
-            }
+            Step::Refused(reason) => return refusal::tell(rt, line, reason),
         }
         if text.len() <= end + 1 {
             break;
@@ -57,18 +61,34 @@ fn make(text: &[u8], whole: bool) {
         start = end + 1;
         line += 1;
     }
-    finish(progress, rows, line, whole);
+    finish(rt, progress, rows, line, whole)
 }
 
-// Whether standard input has a byte more.
-fn has_more() -> bool {
+// Reads until the buffer is full or the input ends, and returns how many bytes stand at the buffer's start.
+fn read_full(reader: &mut impl Read, buffer: &mut [u8]) -> io::Result<usize>
+    ensures { ReadsAtMost result buffer.new }
+{
+    let mut done = 0;
+    while done < buffer.len() {
+        let count = reader.read(&mut buffer[done..])?;
+        if count == 0 {
+            break;
+        }
+        done += count;
+    }
+    Ok(done)
+}
+
+// Whether the input has a byte more.
+fn has_more(reader: &mut impl Read) -> io::Result<bool> {
     let mut byte = [0u8; 1];
-    io::read_full(STDIN_FILENO, &mut byte) == 1
+    Ok(read_full(reader, &mut byte)? == 1)
 }
 
-fn main() {
+fn main(rt: HostRuntime) -> io::Result<()> {
+    let mut input = rt.stdin();
     let mut buffer = no_input();
-    let length = io::read_full(STDIN_FILENO, &mut buffer);
-    let whole = (length < buffer.len()) || !has_more();
-    make(&buffer[..length], whole);
+    let length = read_full(&mut input, &mut buffer)?;
+    let whole = (length < buffer.len()) || !has_more(&mut input)?;
+    make(&rt, &buffer[..length], whole)
 }

@@ -1,5 +1,5 @@
 // Why a text gives no sheet.
-use libc::STDOUT_FILENO;
+use std::io;
 
 #[derive(Clone, Copy)]
 pub enum Reason {
@@ -13,28 +13,28 @@ pub enum Reason {
     TooLong,
 }
 
-fn print(text: &[u8]) {
-    io::write_all(STDOUT_FILENO, text);
+fn print(rt: &impl Print, text: &[u8]) -> io::Result<()> {
+    rt.write_all(text)
 }
 
-fn print_reason(reason: Reason) {
+fn print_reason(rt: &impl Print, reason: Reason) -> io::Result<()> {
     match reason {
-        Reason::NotRow => print(b"not four numbers of 32 bits"),
-        Reason::NotShape => print(b"shape is not four to twelve numbers of 32 bits"),
-        Reason::NotSpace => print(b"space is not one number of 32 bits"),
-        Reason::SecondSpace => print(b"a second space"),
-        Reason::BothForms => print(b"sizes and shapes in one text"),
-        Reason::TooManyRows => print(b"more rows than a sheet holds"),
-        Reason::NoSpace => print(b"no space given"),
-        Reason::TooLong => print(b"text too long"),
+        Reason::NotRow => print(rt, b"not four numbers of 32 bits"),
+        Reason::NotShape => print(rt, b"shape is not four to twelve numbers of 32 bits"),
+        Reason::NotSpace => print(rt, b"space is not one number of 32 bits"),
+        Reason::SecondSpace => print(rt, b"a second space"),
+        Reason::BothForms => print(rt, b"sizes and shapes in one text"),
+        Reason::TooManyRows => print(rt, b"more rows than a sheet holds"),
+        Reason::NoSpace => print(rt, b"no space given"),
+        Reason::TooLong => print(rt, b"text too long"),
     }
 }
 
 // Tells the line, the first being line 1, and the reason.
-pub(crate) fn tell(line: usize, reason: Reason) {
-    print(b"line ");
-    io::print_decimal(STDOUT_FILENO, line as u64);
-    print(b": ");
-    print_reason(reason);
-    print(b"\n");
+pub(crate) fn tell(rt: &impl Print, line: usize, reason: Reason) -> io::Result<()> {
+    print(rt, b"line ")?;
+    rt.print(line)?;
+    print(rt, b": ")?;
+    print_reason(rt, reason)?;
+    print(rt, b"\n")
 }

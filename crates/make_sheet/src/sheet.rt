@@ -2,7 +2,7 @@
 use crate::refusal::Reason;
 use crate::rows::GREATEST_BYTES;
 use crate::{rows, text};
-use libc::STDOUT_FILENO;
+use std::io;
 use units::Row;
 
 // What the lines so far gave, beside the rows' bytes.
@@ -90,10 +90,10 @@ pub(crate) fn with_line(progress: Progress, line: &[u8], rows: &mut [u8; GREATES
     if first.len() == 0 {
         return Step::Taken(progress);
     }
-    if check::same(first, b"space") {
+    if first == b"space".as_slice() {
         return with_space(progress, line);
     }
-    with_row(progress, check::same(first, b"shape"), line, rows)
+    with_row(progress, first == b"shape".as_slice(), line, rows)
 }
 
 // The version goes by the form of the rows.
@@ -122,10 +122,14 @@ fn header(version: u8, rows: usize, space: u32) -> [u8; 11] {
 }
 
 // Writes the sheet. The bytes are the rows', and those past the last row are not written.
-pub(crate) fn write(progress: Progress, rows: [u8; GREATEST_BYTES]) {
+pub(crate) fn write(
+    rt: &impl Print,
+    progress: Progress,
+    rows: [u8; GREATEST_BYTES],
+) -> io::Result<()> {
     let next = progress.next;
     let header = header(version_of(progress.shapes), next.0, progress.space);
-    io::write_all(STDOUT_FILENO, &header);
+    rt.write_all(&header)?;
     let end = rows::WORD_BYTES * rows::place_of(next, progress.shapes);
-    io::write_all(STDOUT_FILENO, &rows[..end]);
+    rt.write_all(&rows[..end])
 }

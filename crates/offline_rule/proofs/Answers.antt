@@ -1,5 +1,5 @@
 -- Laws of the definitions of specs/Answers.antt.
-use Rattle.std.specs.Prelude.{ℕ, ◌≤◌, true, List, ◌++◌, ◌≡◌, refl, ℤ, pos, negsuc, length, drop}
+use Rattle.std.specs.Prelude.{ℕ, true, List, ◌++◌, ◌≡◌, refl, ℤ, pos, negsuc, length, drop}
 use Rattle.std.proofs.Math.Bool.{not}
 use Rattle.std.proofs.Common.{ap, arith}
 use borrow.Author.Tests.{le-ltb, ltb-false, eq-eqb, ne_eqb, eqb-true, not-false}

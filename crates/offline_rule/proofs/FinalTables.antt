@@ -1,5 +1,5 @@
 -- Laws of the definitions of specs/FinalTables.antt.
-use Rattle.std.specs.Prelude.{ℕ, zero, suc, ◌+◌, ◌*◌, ◌<◌, ◌≤◌, List, ◌≡◌, ℤ, pos, length}
+use Rattle.std.specs.Prelude.{ℕ, zero, suc, ◌≤◌, List, ◌≡◌, ℤ, pos, length}
 use Rattle.std.proofs.Common.{inr, ◌∙◌, ap, arith}
 use Rattle.bounded.proofs.Front.{front_length, front_at, front_past}
 use Rattle.request_table.specs.Limits.{greatest_rows}

@@ -1,5 +1,5 @@
 -- The answers of reading and of writing as the code comes to them, one check after the other, and what a done answer says.
-use Rattle.std.specs.Prelude.{ℕ, ◌≤◌, List, ◌++◌, ◌≡◌, ℤ, pos, length}
+use Rattle.std.specs.Prelude.{ℕ, ◌≤◌, List, ◌≡◌, ℤ, pos, length}
 use Rattle.request_table.specs.Limits.{greatest_rows}
 use Rattle.word_bytes.specs.Bytes.{word_of}
 use Rattle.offline_rule.specs.OfflinePlan.{plan_bytes, count_place}

@@ -1,7 +1,6 @@
 -- Law: what a done answer leaves in the lent table, entry by entry. Reading: "any offset word is handed on as it stands". Writing: the first two words
 -- "are .. written as 1 and 1", the third is n, then come the offsets; "exactly 12 + 4n bytes change".
 use Rattle.std.specs.Prelude.{ℕ, ◌+◌, ◌*◌, ◌<◌, ◌≤◌, List, ◌≡◌, ℤ, pos, length, get_or}
-use Rattle.std.proofs.Common.{◌∙◌}
 use Rattle.word_bytes.specs.Bytes.{word_of}
 
 -- The table of offsets after reading.

@@ -1,8 +1,7 @@
 -- Demand 2: "An offline plan that we write reads back as the same offsets; one that we read, whose first two words are ours, is written back byte for
 -- byte." Both are over all inputs: any offsets of 32 bits, any lent bytes and tables that are long enough, whatever stands in them.
-use Prim.Native.Nat.{ℕ, ◌+◌, ◌*◌, ◌<◌, ◌≤◌}
+use Prim.Native.Nat.{ℕ}
 use mathlib.Core.List.{List, ◌++◌}
-use Rattle.std.proofs.Common.{⊎_elim, ◌∙◌}
 use Rattle.std.specs.Prelude.{◌≡◌, ℤ, take}
 use Rattle.std.proofs.Math.ListN.{length, drop}
 use Rattle.answer.specs.Answer.{done_with}

@@ -1,8 +1,11 @@
 // Plans a request sheet: standard input to standard output. All that matters is in `request_sheet`.
 #![tactic(auto)]
 
-use libc::{STDIN_FILENO, STDOUT_FILENO};
+ghost use Rattle.std.specs.Io.{ReadsAtMost};
+
 use request_sheet::{GREATEST_SHEET, GREATEST_TEXT};
+use std::io;
+use std::io::Read;
 
 // One byte more than the longest sheet has, so that a longer input is seen to be longer.
 const INPUT_BYTES: usize = GREATEST_SHEET + 1;
@@ -16,14 +19,29 @@ fn no_text() -> [u8; GREATEST_TEXT] {
 }
 
 // Writes the reply to a sheet.
-fn answer(sheet: &[u8]) {
+fn answer(rt: &impl Print, sheet: &[u8]) -> io::Result<()> {
     let mut text = no_text();
     let reply = request_sheet::reply(sheet, &mut text);
-    io::write_all(STDOUT_FILENO, text_pieces::told(reply, &text));
+    rt.write_all(text_pieces::told(reply, &text))
 }
 
-fn main() {
+// Reads until the buffer is full or the input ends, and returns how many bytes stand at the buffer's start.
+fn read_full(reader: &mut impl Read, buffer: &mut [u8]) -> io::Result<usize>
+    ensures { ReadsAtMost result buffer.new }
+{
+    let mut done = 0;
+    while done < buffer.len() {
+        let count = reader.read(&mut buffer[done..])?;
+        if count == 0 {
+            break;
+        }
+        done += count;
+    }
+    Ok(done)
+}
+
+fn main(rt: HostRuntime) -> io::Result<()> {
     let mut input = no_input();
-    let length = io::read_full(STDIN_FILENO, &mut input);
-    answer(&input[..length]);
+    let length = read_full(&mut rt.stdin(), &mut input)?;
+    answer(&rt, &input[..length])
 }

@@ -2,6 +2,8 @@
 // Every number printed is counted.
 #![tactic(auto)]
 
+use std::io;
+
 mod all_pairs;
 mod changes;
 mod compare;
@@ -51,8 +53,8 @@ fn run_all(tally: &mut [u64]) {
     }
 }
 
-fn main() {
+fn main(rt: HostRuntime) -> io::Result<()> {
     let mut tally = [0u64; tally::COUNTS];
     run_all(&mut tally);
-    tally::print(&tally);
+    tally::print(&rt, &tally)
 }

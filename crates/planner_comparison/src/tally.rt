@@ -1,7 +1,7 @@
 // What was met, counted.
 use crate::{numbers, table};
 use answer::Answer;
-use libc::STDOUT_FILENO;
+use std::io;
 
 // Where each count stands: the planner's answers by number, the inspector's behind them, then the rest.
 pub const PLANNER: u64 = 0;
@@ -39,29 +39,36 @@ pub(crate) fn add_table(tally: &mut [u64], requests: &[i32]) {
 }
 
 // A line: a name and a count.
-fn print_count(name: &[u8], count: u64) {
-    io::write_all(STDOUT_FILENO, name);
-    io::write_all(STDOUT_FILENO, b" ");
-    io::print_decimal(STDOUT_FILENO, count);
-    io::write_all(STDOUT_FILENO, b"\n");
+fn print_count(rt: &impl Print, name: &[u8], count: u64) -> io::Result<()> {
+    rt.write_all(name)?;
+    rt.write_all(b" ")?;
+    rt.print(count)?;
+    rt.write_all(b"\n")
 }
 
 // So many counts of answers, by their number.
-fn print_answers(name: &[u8], tally: &[u64], from: u64, count: u64) {
+fn print_answers(
+    rt: &impl Print,
+    name: &[u8],
+    tally: &[u64],
+    from: u64,
+    count: u64,
+) -> io::Result<()> {
     let mut number = 0;
     while number < count {
-        io::write_all(STDOUT_FILENO, name);
-        io::write_all(STDOUT_FILENO, b" ");
-        io::print_decimal(STDOUT_FILENO, number);
-        print_count(b":", table::entry(tally, numbers::sum(from, number)));
+        rt.write_all(name)?;
+        rt.write_all(b" ")?;
+        rt.print(number)?;
+        print_count(rt, b":", table::entry(tally, numbers::sum(from, number)))?;
         number += 1;
     }
+    Ok(())
 }
 
-pub(crate) fn print(tally: &[u64]) {
-    print_count(b"tables", table::entry(tally, TABLES));
-    print_count(b"tables of 1024 rows", table::entry(tally, LONGEST));
-    print_answers(b"planner", tally, PLANNER, 8);
-    print_answers(b"inspector", tally, INSPECTOR, 11);
-    print_count(b"disagreements", table::entry(tally, DISAGREEMENTS));
+pub(crate) fn print(rt: &impl Print, tally: &[u64]) -> io::Result<()> {
+    print_count(rt, b"tables", table::entry(tally, TABLES))?;
+    print_count(rt, b"tables of 1024 rows", table::entry(tally, LONGEST))?;
+    print_answers(rt, b"planner", tally, PLANNER, 8)?;
+    print_answers(rt, b"inspector", tally, INSPECTOR, 11)?;
+    print_count(rt, b"disagreements", table::entry(tally, DISAGREEMENTS))
 }

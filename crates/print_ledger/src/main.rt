@@ -3,21 +3,21 @@
 
 use arena_sections::Sections;
 use ledger_text::GREATEST_LEDGER_TEXT;
-use libc::STDOUT_FILENO;
 use recording_rule::Ledger;
+use std::io;
 
 fn no_text() -> [u8; GREATEST_LEDGER_TEXT] {
     [0; GREATEST_LEDGER_TEXT]
 }
 
 // Writes the ledger's text.
-fn print(ledger: Ledger) {
+fn print(rt: &impl Print, ledger: Ledger) -> io::Result<()> {
     let mut text = no_text();
     let reply = ledger_text::write_ledger(ledger, &mut text);
-    io::write_all(STDOUT_FILENO, text_pieces::told(reply, &text));
+    rt.write_all(text_pieces::told(reply, &text))
 }
 
-fn main() {
+fn main(rt: HostRuntime) -> io::Result<()> {
     let opened = Sections::open(1003, 2048).sections;
     let recording = arena_recording::allocate_persistent(
         opened,
@@ -26,5 +26,5 @@ fn main() {
         10,
         8,
     );
-    print(recording.ledger);
+    print(&rt, recording.ledger)
 }

@@ -1,5 +1,5 @@
 -- Laws of the definitions of specs/ShapeAnswers.antt.
-use Rattle.std.specs.Prelude.{ℕ, ◌+◌, ◌*◌, ◌<◌, ◌≤◌, ◌%◌, true, false, List, ◌≡◌, ℤ, pos, length}
+use Rattle.std.specs.Prelude.{ℕ, ◌+◌, ◌*◌, ◌<◌, ◌≤◌, true, false, List, ◌≡◌, ℤ, pos, length}
 use Rattle.std.proofs.Math.Bool.{not}
 use Rattle.std.proofs.Common.{⊎_elim, ◌∙◌, subst, arith}
 use Rattle.std.proofs.Math.Path.{refl, sym, ap}

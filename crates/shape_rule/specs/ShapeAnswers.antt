@@ -1,6 +1,5 @@
 -- The answer for a shape table as the code comes to it: a refusal of the lengths stands; past them the shapes decide. And what is left in the lent table.
-use Rattle.std.specs.Prelude.{ℕ, ◌+◌, ◌*◌, ◌<◌, ◌≤◌, ◌%◌, List, ◌≡◌, ℤ, length}
-use Rattle.std.proofs.Common.{⊎_elim, ◌∙◌}
+use Rattle.std.specs.Prelude.{ℕ, ◌*◌, ◌≤◌, ◌%◌, List, ◌≡◌, ℤ, length}
 use Rattle.request_table.specs.Limits.{greatest_rows}
 use Rattle.shape_rule.specs.ShapeTable.{shape_count}
 

@@ -1,8 +1,7 @@
 -- Law: what is answered for a row of shapes and for a table of them, and when, in document 02's words: a row with a negative number of dimensions or more
 -- than eight is number 2; of a table, 1, 2 and 3 for the lengths, then the lowest bad shape by its own number with its row; each only where none before
 -- it holds.
-use Rattle.std.specs.Prelude.{ℕ, ◌+◌, ◌*◌, ◌%◌, ◌<◌, ◌≤◌, List, ◌⊎◌, ◌≡◌, ℤ, pos, length, take, drop, ◌<ℤ◌}
-use Rattle.std.proofs.Common.{◌∙◌}
+use Rattle.std.specs.Prelude.{ℕ, ◌+◌, ◌*◌, ◌%◌, ◌<◌, ◌≤◌, List, ◌≡◌, ℤ, pos, length, take, drop, ◌<ℤ◌}
 use Rattle.answer.specs.Answer.{refused, refused_at, done_with, not_whole_rows, too_many, table_too_short}
 use Rattle.bounded.specs.Lowest.{Lowest}
 use Rattle.request_table.specs.Limits.{greatest_rows}

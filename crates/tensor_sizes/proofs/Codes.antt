@@ -8,7 +8,7 @@ use mir.Syntax.{w32}
 use mir.Val.{of_z}
 use Rattle.words.specs.Words.{natural}
 use Rattle.tensor_sizes.specs.Elements.{Element}
-use Rattle.tensor_sizes.proofs.Elements.{small_code}
+use Rattle.tensor_sizes.proofs.ElementBytes.{small_code}
 
 -- Where the bits are a key, so is the code,
 code_is : (x : ℤ) (k : ℕ) → mag x < 2 ^ 31 → k ≤ 12 → of_z w32 x ≡ k → natural x ≡ k

@@ -1,7 +1,7 @@
 pub mod Codes
 pub mod AnyOrder
 pub mod Capped
-pub mod Elements
+pub mod ElementBytes
 pub mod SizeExamples
 pub mod SizeLaws
 pub mod SizeOutcomes

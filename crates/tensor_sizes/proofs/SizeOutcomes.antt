@@ -20,7 +20,7 @@ use Rattle.words.specs.WordOrders.{within}
 use Rattle.words.specs.Words.{natural, word_at}
 use Rattle.tensor_sizes.specs.ByteSize.{greatest_dimensions, element_bytes, elements, has_negative, size_causes, byte_size_of}
 use Rattle.tensor_sizes.specs.Elements.{Element}
-use Rattle.tensor_sizes.proofs.Elements.{element_bytes_lem, element_or_none, some_bytes, small_code}
+use Rattle.tensor_sizes.proofs.ElementBytes.{element_bytes_lem, element_or_none, some_bytes, small_code}
 use Rattle.tensor_sizes.proofs.SizeLaws.{elements_given, negative_told, size_given, elements_decide, negative_seen, negative_stands}
 
 zero_elements : (shape : List ℤ) (k : ℕ) → k < length shape → word_at shape k ≡ pos 0 → elements shape ≡ 0

@@ -1,6 +1,6 @@
 -- Law: the bytes of an element by the TensorFlow Lite schema's type codes, one by one under their names there. A string, code 5, has no size that its type
 -- tells, and is refused.
-use Rattle.std.specs.Prelude.{ℕ, ◌<◌, ◌≤◌, ◌⊎◌, ◌≡◌}
+use Rattle.std.specs.Prelude.{ℕ}
 
 -- An element of the type with that code has so many bytes.
 pub data Element : ℕ → ℕ → Type 0 where

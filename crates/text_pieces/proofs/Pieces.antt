@@ -1,5 +1,5 @@
 -- Laws of the definitions of specs/Pieces.antt.
-use Rattle.std.specs.Prelude.{ℕ, zero, suc, ◌+◌, ◌*◌, ◌^◌, ◌≤◌, ◌<◌, List, [], ◌∷◌, ◌++◌, ◌≡◌, refl, length}
+use Rattle.std.specs.Prelude.{ℕ, zero, suc, ◌+◌, ◌*◌, ◌^◌, ◌≤◌, ◌<◌, List, [], ◌++◌, ◌≡◌, refl, length}
 use Rattle.std.proofs.Common.{ap₂, mul-suc, add-one, arith, length-append}
 use Rattle.decimal_text.specs.Decimal.{decimal}
 use Rattle.decimal_text.proofs.Decimals.{places_at_most, places_bounded, decimal_long}

@@ -1,5 +1,5 @@
 -- Laws of the definitions of specs/Replied.antt.
-use Rattle.std.specs.Prelude.{ℕ, ◌<◌, ◌≤◌, List, [], ◌++◌, ◌≡◌, refl, length, drop}
+use Rattle.std.specs.Prelude.{ℕ, ◌<◌, ◌≤◌, List, ◌≡◌, refl, length, drop}
 use Rattle.std.proofs.Common.{◌∙◌, ap, subst, take_at}
 use borrow.Author.Tests.{lt-ltb, le-ltb}
 use Rattle.text_pieces.specs.declared.Reply.TheVariants.{Text, NoRoom}

@@ -1,5 +1,5 @@
 -- What texts are made of. A text is the list of its ASCII codes; "Every line ends in one line feed" (document 01, "The request sheet").
-use Rattle.std.specs.Prelude.{ℕ, zero, suc, ◌+◌, ◌*◌, ◌^◌, ◌≤◌, ◌<◌, List, [], ◌∷◌, ◌++◌, ◌≡◌}
+use Rattle.std.specs.Prelude.{ℕ, zero, suc, List, [], ◌∷◌, ◌++◌}
 use Rattle.decimal_text.specs.Decimal.{decimal}
 
 -- The line feed that ends a line.

@@ -1,7 +1,6 @@
 -- What asking for a text comes to, and what it leaves in the lent bytes: the text in front and the rest as it was; or, where fewer bytes were lent than the
 -- longest such text has, nothing changes. "Where an answer is an enum, a definition gives this paper's number".
-use Rattle.std.specs.Prelude.{ℕ, ◌<◌, ◌≤◌, true, false, List, [], ◌++◌, ◌≡◌, ltb, length, take, drop}
-use Rattle.std.proofs.Common.{◌∙◌}
+use Rattle.std.specs.Prelude.{ℕ, true, false, List, [], ◌++◌, ◌≡◌, ltb, length, take, drop}
 use Rattle.answer.specs.Answer.{done, table_too_short}
 use Rattle.text_pieces.specs.declared.Reply.{Reply}
 use Rattle.text_pieces.specs.declared.Reply.TheVariants.{Text, NoRoom}

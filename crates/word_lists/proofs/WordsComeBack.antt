@@ -1,5 +1,5 @@
 -- Laws of the definitions of specs/WordsComeBack.antt.
-use Rattle.std.specs.Prelude.{ℕ, zero, suc, ◌+◌, ◌-◌, ◌*◌, ◌^◌, ◌≤◌, ◌<◌, List, [], ◌∷◌, ◌++◌, ◌⊎◌, ◌≡◌, refl, ℤ, pos, length, get_or, take, drop}
+use Rattle.std.specs.Prelude.{ℕ, zero, suc, ◌+◌, ◌-◌, ◌*◌, ◌≤◌, ◌<◌, List, [], ◌∷◌, ◌++◌, ◌⊎◌, ◌≡◌, refl, ℤ, pos, length, get_or, take, drop}
 use Rattle.std.proofs.Common.{append-nil, inl, inr, ⊎_elim, ◌∙◌, ap, add-zero, le_of_suc-le-suc, arith, take-append-drop, length-drop, drop_of_length-le, get_or-take, get_or-drop, ext_get_or, take_all}
 use Rattle.bounded.proofs.Boolean.{lt_or_le}
 use Rattle.word_bytes.specs.Bytes.{word_of, with_word}
@@ -13,14 +13,14 @@ use Rattle.word_lists.specs.WordsComeBack.{AllFit}
 pub words_length : (bytes : List ℕ) (at n : ℕ) → length (words_from bytes at n) ≡ n
 unfolding words_from
 words_length bytes at zero = refl
-words_length bytes at (suc n) = ap suc (words_length bytes _ n)
+words_length bytes at (suc n) = ap suc (words_length bytes (at + 4) n)
 
 -- each where it stands.
 pub words_at : (bytes : List ℕ) (at n k : ℕ) → k < n → get_or (words_from bytes at n) k (pos 0) ≡ word_of bytes (at + k * 4)
 unfolding words_from
 words_at bytes at zero k h = absurd (omega arith)
 words_at bytes at (suc n) zero h = ap (word_of bytes) (omega arith)
-words_at bytes at (suc n) (suc k) h = words_at bytes _ n k (le_of_suc-le-suc h) ∙ ap (word_of bytes) (omega arith)
+words_at bytes at (suc n) (suc k) h = words_at bytes (at + 4) n k (le_of_suc-le-suc h) ∙ ap (word_of bytes) (omega arith)
 
 -- Words that agree one by one are read alike.
 pub words_same : (bytes others : List ℕ) (at place n : ℕ) → ((k : ℕ) → k < n → word_of bytes (at + k * 4) ≡ word_of others (place + k * 4))

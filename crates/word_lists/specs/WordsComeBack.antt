@@ -1,7 +1,6 @@
 -- What is put into bytes is what is read from them, for lists of words: a list that was put comes back, words that were read and are put again copy
 -- their bytes, and no other byte changes.
-use Rattle.std.specs.Prelude.{ℕ, ◌+◌, ◌-◌, ◌*◌, ◌^◌, ◌≤◌, ◌<◌, List, [], ◌∷◌, ◌++◌, ◌⊎◌, ◌≡◌, ℤ, pos, length, get_or}
-use Rattle.std.proofs.Common.{⊎_elim, ◌∙◌}
+use Rattle.std.specs.Prelude.{ℕ, ◌^◌, ◌<◌, List, ℤ, pos, length, get_or}
 use Rattle.std.specs.Int.Signed.{mag}
 
 -- Every word of the list is one of 32 bits.
