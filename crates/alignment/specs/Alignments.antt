@@ -1,7 +1,6 @@
 -- What a grid loses at the start of an arena, and the alignments that it allows (document 01, "Three sections in one arena" and number 14). Both are over
 -- the grid, which is 16 in document 01.
-use Rattle.std.specs.Prelude.{◌≡◌, ℕ, ◌+◌, ◌-◌, ◌*◌, ◌/◌, ◌%◌, ◌^◌, ◌<◌, ◌≤◌, Bool, ◌&&◌, ◌⊎◌, ◌↔◌, nat_le}
-use Rattle.std.proofs.Common.{⊎_elim, ◌∙◌}
+use Rattle.std.specs.Prelude.{ℕ, ◌-◌, ◌%◌, ◌≤◌, Bool, ◌&&◌, nat_le}
 use Rattle.alignment.specs.Powers.{is_power_of_two, PowerOfTwo}
 
 -- "Opening at start s with length L loses (16 − s mod 16) mod 16 bytes".

@@ -1,7 +1,7 @@
 -- Powers of two.
 --     isPowerOfTwo n     whether n is 2 ^ k for some k
 -- A reader believes it by `power_says` and `power_of`, which mention no search.
-use Rattle.std.specs.Prelude.{◌≡◌, ℕ, ◌^◌, ◌<◌, Bool, nat_eq}
+use Rattle.std.specs.Prelude.{◌≡◌, ℕ, ◌^◌, Bool, nat_eq}
 use Rattle.bounded.specs.First.{holds_below}
 
 -- Whether a number is a power of two; its exponent is then below it.

@@ -2,8 +2,7 @@
 --     roundedUp g n      the least multiple of g that is at least n
 --     roundedDown g n    the greatest multiple of g that is at most n
 -- A reader believes them by the laws below, for any g above 0. No number is a multiple of 0 but 0, and rounding to it gives 0.
-use Rattle.std.specs.Prelude.{◌≡◌, ℕ, ◌+◌, ◌-◌, ◌*◌, ◌/◌, ◌%◌, ◌<◌, ◌≤◌}
-use Rattle.std.proofs.Common.{⊎_elim, ◌∙◌}
+use Rattle.std.specs.Prelude.{ℕ, ◌+◌, ◌-◌, ◌*◌, ◌/◌}
 
 -- The number rounded up to a multiple of g.
 unfoldable pub rounded_up : ℕ → ℕ → ℕ

@@ -1,5 +1,5 @@
 -- Laws of the definitions of specs/Ordered.antt.
-use Rattle.std.specs.Prelude.{◌≤◌, true, ◌&&◌, ◌≡◌}
+use Rattle.std.specs.Prelude.{true, ◌&&◌, ◌≡◌}
 use borrow.Author.Tests.{leb-true, le-leb}
 use Rattle.std.proofs.Math.Dec.{leb}
 use Rattle.bounded.proofs.Boolean.{both, both_hold}

@@ -1,5 +1,5 @@
 -- Laws of the definitions of specs/Outcomes.antt.
-use Rattle.std.specs.Prelude.{ℕ, ◌+◌, ◌-◌, ◌%◌, ◌<◌, ◌≤◌, Bool, true, false, ◌++◌, ◌⊎◌, ◌≡◌, refl}
+use Rattle.std.specs.Prelude.{ℕ, ◌+◌, ◌-◌, ◌<◌, ◌≤◌, Bool, true, false, ◌++◌, ◌⊎◌, ◌≡◌, refl}
 use Rattle.std.proofs.Common.{inl, inr, sym, ap, arith}
 use Rattle.alignment.specs.Alignments.{Allowed, loss, allowed}
 use Rattle.alignment.proofs.Alignments.{allowed_says, allowed_of, allowed_some, loss_reaches, loss_least}

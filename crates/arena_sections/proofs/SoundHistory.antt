@@ -1,5 +1,5 @@
 -- Laws of the definitions of specs/SoundHistory.antt.
-use Rattle.std.specs.Prelude.{ℕ, ◌+◌, ◌≡◌, take}
+use Rattle.std.specs.Prelude.{ℕ, ◌≡◌, take}
 use mathlib.Core.List.{List, [], ◌∷◌}
 use Rattle.std.proofs.Common.{◌∙◌, ap, arith}
 use Rattle.answer.specs.Answer.{done}

@@ -1,6 +1,6 @@
 -- What each effect leaves of the book-keeping: the state and what is held agree, and go on agreeing. One law for each effect, whatever operation had
 -- it, so that an operation added later shows only which effect it has (`Does`), and an effect added later its own law.
-use Rattle.std.specs.Prelude.{ℕ, ◌+◌, ◌≤◌, List, [], ◌∷◌, ◌≡◌}
+use Rattle.std.specs.Prelude.{ℕ, ◌+◌, ◌≤◌, List, ◌≡◌}
 use Rattle.bounded.specs.Entries.{Each, EachTwo}
 use Rattle.arena_sections.specs.History.{Span, Kept, Held, Effect, Apart, Inside, KeptApart, KeptInside, no_span, no_kept, used, tail_by, temp_by}
 use Rattle.arena_sections.specs.History.Effect.{nothing, keeps, borrows, resets, sets_head}

@@ -1,5 +1,5 @@
 -- Law: what a valid state is, in plain terms.
-use Rattle.std.specs.Prelude.{◌≤◌, ◌&&◌, ◌≡◌}
+use Rattle.std.specs.Prelude.{◌≤◌}
 use Rattle.arena_sections.specs.Sections.{greatest_length}
 use Rattle.arena_sections.specs.declared.Sections.{Sections}
 

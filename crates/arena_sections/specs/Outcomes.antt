@@ -1,6 +1,6 @@
 -- Law: what opening and each operation answer, and when, in plain terms. No two of an operation's cases hold together and one always does, so each
 -- number is given exactly where it is stated. A refusal hands the same state back. What the next state is, the law of histories says.
-use Rattle.std.specs.Prelude.{ℕ, ◌+◌, ◌-◌, ◌%◌, ◌<◌, ◌≤◌, ◌++◌, ◌⊎◌, ◌≡◌}
+use Rattle.std.specs.Prelude.{ℕ, ◌+◌, ◌%◌, ◌≤◌, ◌≡◌}
 use Rattle.arena_sections.specs.declared.Sections.{Sections}
 
 -- ---- opening

@@ -2,8 +2,7 @@
 -- the history, of size and gap, the gap being (tail before − size) mod alignment; no two kept spans share a byte, and none meets the head or a borrowed
 -- span not yet reset." It holds on any grid, after any accepted opening and any list of operations with any arguments, refused ones among them.
 use Rattle.std.specs.Prelude.{ℕ, ◌+◌, ◌≡◌, take}
-use mathlib.Core.List.{List, [], ◌∷◌}
-use Rattle.std.proofs.Common.{◌∙◌}
+use mathlib.Core.List.{List}
 use Rattle.bounded.specs.Entries.{Each, EachTwo}
 use Rattle.arena_sections.specs.History.{Operation, Span, Kept, Held, Apart, Inside, KeptApart, KeptInside, no_span, no_kept, temp_by, used, tail_by, opened, state_after, held}
 use Rattle.arena_sections.specs.Ordered.{Ordered}

@@ -3,7 +3,7 @@
 #![tactic(auto)]
 
 ghost use Rattle.std.specs.Prelude.{◌≡◌};
-ghost use Rattle.arena_sections.specs.Sections.{base_alignment, fresh as freshState, valid, refused_outcome, done_outcome, open_of, allocation_of, persistent_of, temp_of, reset_of, head_of, };
+ghost use Rattle.arena_sections.specs.Sections.{base_alignment, fresh as freshState, valid, refused_outcome, done_outcome, open_of, allocation_of, persistent_of, temp_of, reset_of, head_of};
 
 use answer::Answer;
 

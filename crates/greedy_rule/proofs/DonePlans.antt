@@ -1,5 +1,5 @@
 -- Laws of the definitions of specs/DonePlans.antt.
-use Rattle.std.specs.Prelude.{ℕ, ◌%◌, ◌<◌, ◌≤◌, ◌⊎◌, ◌≡◌, ℤ}
+use Rattle.std.specs.Prelude.{ℕ, ◌≡◌, ℤ}
 use mathlib.Core.List.{List}
 use Rattle.std.proofs.Common.{◌∙◌, eq-eqb, ne_eqb}
 use Rattle.std.proofs.Math.Path.{ap}

@@ -9,25 +9,14 @@ use Rattle.placement.specs.LowestFree.{LowestFree, Blocker}
 use Rattle.placement.proofs.LowestFree.{lowest_free}
 use Rattle.placement.specs.Placing.{lowest, offset_for}
 use Rattle.greedy_rule.specs.Greedy.{greedy_plan}
-use Rattle.greedy_rule.specs.GreedyOrder.{PlacedBefore}
-use Rattle.greedy_rule.proofs.GreedyOrder.{position, position_listed, before_says, before_of}
+use Rattle.greedy_rule.specs.GreedyOrder.{position}
+use Rattle.greedy_rule.specs.LowestPlace.{BlockedBy, TakesLowest}
+use Rattle.greedy_rule.proofs.GreedyOrder.{position_listed, before_says, before_of}
 use Rattle.greedy_rule.proofs.PlanByPosition.{stage, placed_from, plan_takes, stage_is_plan}
 
 module _ (g : ℕ) (t : List ℤ) where
-  -- A row placed before row r that collides, at its offset of the plan, with row r at offset o.
-  pub record BlockedBy (r o : ℕ) : Type 0 where
-    pub row : ℕ
-    pub within : row < rows t
-    pub earlier : PlacedBefore g t row r
-    pub collides : Colliding (buffer_at g t r o) (buffer_at g t row (greedy_plan g t row))
-
-  -- No row placed before it collides with row r, and at every lower offset some would.
-  pub record TakesLowest (r : ℕ) : Type 0 where
-    pub clear : (b : ℕ) → b < rows t → PlacedBefore g t b r → Colliding (buffer_at g t r (greedy_plan g t r)) (buffer_at g t b (greedy_plan g t b)) → ⊥
-    pub blocked : (q : ℕ) → q < greedy_plan g t r → BlockedBy r q
-
   -- So it is for every row that is not fixed.
-  pub rest_takes_lowest : (r : ℕ) → r < rows t → fixed t r ≡ false → TakesLowest r
+  pub rest_takes_lowest : (r : ℕ) → r < rows t → fixed t r ≡ false → TakesLowest g t r
   unfolding offset_for
   rest_takes_lowest r l e = record {
     clear = λ b m h c.
@@ -48,7 +37,7 @@ module _ (g : ℕ) (t : List ℤ) where
       come : (b : ℕ) → b < rows t → position g t b < position g t r → (stage g t (position g t r)).placed b ≡ true
       come b m p = placed_from g t b m (position g t r) within ∙ lt-ltb _ _ p
 
-      earlier : (q : ℕ) → Blocker g t (stage g t (position g t r)) r q → BlockedBy r q
+      earlier : (q : ℕ) → Blocker g t (stage g t (position g t r)) r q → BlockedBy g t r q
       earlier q x =
           let p : position g t x.row < position g t r = ltb-true _ _ (sym (placed_from g t x.row x.within (position g t r) within) ∙ x.placed) in
           record {

@@ -6,7 +6,8 @@ use Rattle.request_table.specs.Buffers.{buffer_at}
 use Rattle.request_table.specs.Colliding.{Colliding}
 use Rattle.request_table.specs.Table.{rows, fixed, fixed_offset}
 use Rattle.greedy_rule.specs.Greedy.{greedy_plan}
-use Rattle.greedy_rule.proofs.GreedyOrder.{position, row_at, position_listed, fixed_before_rest, before_says}
+use Rattle.greedy_rule.proofs.GreedyOrder.{position_listed, fixed_before_rest, before_says}
+use Rattle.greedy_rule.specs.GreedyOrder.{position, row_at}
 use Rattle.greedy_rule.proofs.PlanByPosition.{fixed_rows_stay}
 use Rattle.greedy_rule.proofs.LowestPlace.{rest_takes_lowest}
 

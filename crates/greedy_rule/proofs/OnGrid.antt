@@ -10,7 +10,8 @@ use Rattle.request_table.specs.Table.{rows, request, fixed, good}
 use Rattle.placement.proofs.LowestFree.{EndsAt, lowest_is_an_end}
 use Rattle.placement.specs.Placing.{lowest, offset_for}
 use Rattle.greedy_rule.specs.Greedy.{greedy_plan}
-use Rattle.greedy_rule.proofs.GreedyOrder.{position, position_listed}
+use Rattle.greedy_rule.proofs.GreedyOrder.{position_listed}
+use Rattle.greedy_rule.specs.GreedyOrder.{position}
 use Rattle.greedy_rule.proofs.PlanByPosition.{stage, placed_from, plan_takes, stage_is_plan, fixed_rows_stay}
 
 module _ (g : ℕ) (t : List ℤ) (goods : (r : ℕ) → r < rows t → good g (request t r) ≡ true) where

@@ -10,7 +10,8 @@ use Rattle.request_table.specs.Table.{rows, fixed, fixed_offset}
 use Rattle.placement.specs.Placing.{Placing, put, offset_for, placing, place}
 use Rattle.placement.proofs.Put.{put_there, put_elsewhere, placed_there, placed_elsewhere}
 use Rattle.greedy_rule.specs.Greedy.{fixed_first, greedy_order, greedy_plan}
-use Rattle.greedy_rule.proofs.GreedyOrder.{position, row_at, whole_length, position_listed, listed_position}
+use Rattle.greedy_rule.proofs.GreedyOrder.{whole_length, position_listed, listed_position}
+use Rattle.greedy_rule.specs.GreedyOrder.{position, row_at}
 
 module _ (g : ℕ) (t : List ℤ) where
   -- What is placed once the rows of the first k places are.

@@ -1,7 +1,6 @@
 -- Law (demand 2): an allowed space, room for the answer and a table of good rows is refused only as 6 or 7: 6 exactly if two fixed rows collide, with the
 -- least pair; 7 exactly if not 6 and the plan's need exceeds the space. All else is done, with the need.
-use Rattle.std.specs.Prelude.{ℕ, ◌<◌, ◌≤◌, true, ◌&&◌, List, ◌⊎◌, ◌≡◌, ℤ}
-use Rattle.std.proofs.Common.{◌∙◌}
+use Rattle.std.specs.Prelude.{ℕ, ◌<◌, true, List, ◌≡◌, ℤ}
 use Rattle.bounded.specs.Lowest.{LeastPair}
 use Rattle.request_table.specs.Buffers.{buffer_at}
 use Rattle.request_table.specs.Colliding.{Colliding}

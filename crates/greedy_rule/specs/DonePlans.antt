@@ -1,7 +1,6 @@
 -- Law: what a done answer of the planner promises, and what a refusal leaves, written out over the answer and the final table.
 use Rattle.std.specs.Prelude.{ℕ, ◌%◌, ◌<◌, ◌≤◌, true, false, ◌⊎◌, ◌≡◌, ℤ}
 use mathlib.Core.List.{List}
-use Rattle.std.proofs.Common.{◌∙◌}
 use Rattle.std.proofs.Math.IntN.{pos}
 use Rattle.std.proofs.Math.ListN.{length, get_or}
 use Rattle.answer.specs.Answer.{done_with}
@@ -11,7 +10,7 @@ use Rattle.request_table.specs.Needs.{EndsThere}
 use Rattle.request_table.specs.Table.{rows, fixed, fixed_offset}
 use Rattle.greedy_rule.specs.Greedy.{greedy_plan}
 use Rattle.greedy_rule.specs.Plan.{greedy_need, plan_of, planned_table}
-use Rattle.greedy_rule.proofs.LowestPlace.{TakesLowest}
+use Rattle.greedy_rule.specs.LowestPlace.{TakesLowest}
 
 -- Of a table, a space and a lent answer table for which the planner is done.
 pub record DonePlan (g : ℕ) (t : List ℤ) (space : ℕ) (lent : List ℤ) : Type 0 where

@@ -1,5 +1,5 @@
 -- Laws of the definitions of specs/SoundLifetimes.antt.
-use Rattle.std.specs.Prelude.{ℕ, ◌+◌, ◌*◌, ◌-◌, ◌<◌, ◌≤◌, Bool, true, not, List, ◌≡◌, refl, ℤ, pos, length, ◌≤ℤ◌}
+use Rattle.std.specs.Prelude.{ℕ, ◌+◌, ◌*◌, ◌<◌, ◌≤◌, Bool, true, not, List, ◌≡◌, refl, ℤ, pos, length, ◌≤ℤ◌}
 use Rattle.std.proofs.Math.Bool.{false}
 use Rattle.std.proofs.Common.{⊎_elim, sym, ◌∙◌, subst, arith}
 use Rattle.std.proofs.Math.Path.{ap}

@@ -1,7 +1,6 @@
 -- The answer as the code comes to it: a refusal of the checks 1, 2 and 3 stands; past them the uses decide; past those the checks 20 and 21. And what a
 -- done answer says.
-use Rattle.std.specs.Prelude.{ℕ, ◌<◌, ◌≤◌, ◌*◌, ◌%◌, true, ◌||◌, List, ◌≡◌, ℤ, length}
-use Rattle.std.proofs.Common.{◌∙◌}
+use Rattle.std.specs.Prelude.{ℕ, ◌<◌, ◌≤◌, ◌*◌, ◌%◌, true, List, ◌≡◌, ℤ, length}
 use Rattle.lifetime_rule.specs.Uses.{greatest_operators, greatest_tensors, greatest_uses, count, use_at, good}
 
 -- What lets a list, its numbers and a room pass the checks 1, 2 and 3.

@@ -1,7 +1,5 @@
 -- Good uses in signed numbers, as document 01 writes them: the definition, which reads a negative word as a number above every limit, says the same.
-use Rattle.std.specs.Prelude.{ℕ, ◌<◌, ◌≤◌, ◌&&◌, ◌||◌, List, ◌⊎◌, ◌≡◌, ℤ, ◌≤ℤ◌, ◌<ℤ◌}
-use Rattle.std.proofs.Common.{◌∙◌}
-use Rattle.std.proofs.Math.Logic.{⊎_map}
+use Rattle.std.specs.Prelude.{ℕ, ◌<◌, ◌≤◌, List, ◌⊎◌, ◌≡◌, ℤ, ◌≤ℤ◌, ◌<ℤ◌}
 use Rattle.std.proofs.Math.IntN.{pos}
 use Rattle.words.specs.Words.{natural}
 use Rattle.lifetime_rule.specs.Uses.{reads, writes, model_input, model_output, word}

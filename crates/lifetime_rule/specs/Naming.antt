@@ -1,7 +1,6 @@
 -- What the tests of naming, of outputs and of reading say, over signed words and both ways: which use names a tensor by which operator, which makes it a
 -- model output, and which lets another use read.
-use Rattle.std.specs.Prelude.{ℕ, ◌<◌, ◌&&◌, ◌||◌, List, ◌⊎◌, ◌≡◌, ℤ, ◌<ℤ◌}
-use Rattle.std.proofs.Common.{◌∙◌}
+use Rattle.std.specs.Prelude.{ℕ, ◌<◌, List, ◌≡◌, ℤ, ◌<ℤ◌}
 use Rattle.std.proofs.Math.IntN.{pos}
 use Rattle.lifetime_rule.specs.Uses.{reads, writes, model_input, model_output, count, word}
 

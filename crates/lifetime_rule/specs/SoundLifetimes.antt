@@ -1,8 +1,7 @@
 -- Law: what a done operator list leaves. Each tensor's life has 0 ≤ first ≤ last < T and holds every operator that names the tensor; its first operator
 -- names the tensor, and its last one does too or is T − 1, for a model output; no read stands without role 2 or a write by an earlier operator. So a life
 -- is neither too short nor too long, and its ends are good moments for a row of the request table.
-use Rattle.std.specs.Prelude.{ℕ, ◌+◌, ◌*◌, ◌-◌, ◌<◌, ◌≤◌, List, ◌≡◌, ℤ, pos, length, ◌≤ℤ◌}
-use Rattle.std.proofs.Common.{⊎_elim, ◌∙◌}
+use Rattle.std.specs.Prelude.{ℕ, ◌+◌, ◌*◌, ◌<◌, ◌≤◌, List, ◌≡◌, ℤ, pos, length}
 use Rattle.words.specs.Words.{word_at}
 use Rattle.lifetime_rule.specs.FromUses.{final_lifetimes}
 use Rattle.lifetime_rule.specs.Naming.{Names, Lets, Some, Named, Output}

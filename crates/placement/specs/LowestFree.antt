@@ -1,8 +1,8 @@
 -- Law: a row that takes the lowest offset is free of the rows already placed, and at no lower offset is it.
-use Prim.Native.Nat.{ℕ, ◌<◌, ◌≤◌}
-use Rattle.std.specs.Prelude.{◌&&◌, List, ◌⊎◌, ◌≡◌, ℤ}
+use Prim.Native.Nat.{ℕ, ◌<◌}
+use Rattle.std.specs.Prelude.{List, ◌≡◌, ℤ}
 use Rattle.std.proofs.Math.Bool.{true}
-use Rattle.request_table.specs.Buffers.{buffer_at, collides}
+use Rattle.request_table.specs.Buffers.{buffer_at}
 use Rattle.request_table.specs.Colliding.{Colliding}
 use Rattle.request_table.specs.Table.{rows}
 use Rattle.placement.specs.Placing.{Placing}

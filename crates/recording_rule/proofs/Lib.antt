@@ -1,5 +1,5 @@
 pub mod Balance
 pub mod Cases
-pub mod Kinds
+pub mod NamedKinds
 pub mod Outcomes
 pub mod SoundLedger

@@ -19,7 +19,7 @@ use Rattle.recording_rule.specs.Balance.{Balanced}
 use Rattle.recording_rule.proofs.Balance.{balanced_says, balanced_of, with_same, with_other}
 use Rattle.recording_rule.proofs.Cases.{by_state, by_ledger, by_alignment, by_kind, by_count, by_sections, recorded_ledger, refused_ledger, recorded_says}
 use Rattle.recording_rule.specs.Kinds.{Named}
-use Rattle.recording_rule.proofs.Kinds.{named_of, named_says}
+use Rattle.recording_rule.proofs.NamedKinds.{named_of, named_says}
 use Rattle.recording_rule.specs.Ledger.{kind_count, greatest_count, of_kind, balanced, with_keep, with_keep_of}
 use Rattle.recording_rule.specs.Recording.{recording_causes, recorded_of, recording_of}
 use Rattle.recording_rule.specs.declared.Ledger.{Ledger}

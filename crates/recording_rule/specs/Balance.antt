@@ -1,5 +1,5 @@
 -- Laws of the ledger: a balanced one in plain terms, and what one keep more changes.
-use Rattle.std.specs.Prelude.{ℕ, ◌+◌, ◌<◌, ◌≤◌, ◌≡◌}
+use Rattle.std.specs.Prelude.{ℕ, ◌<◌, ◌≤◌, ◌≡◌}
 use Rattle.recording_rule.specs.Ledger.{kind_count, of_kind, total_used}
 use Rattle.recording_rule.specs.declared.Ledger.{Ledger}
 

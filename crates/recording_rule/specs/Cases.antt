@@ -1,7 +1,6 @@
 -- An allocation through the ledger as the code comes to it: the sections' own allocation tells 13 and 14 by its number, what the ledger refuses is told
 -- among them, and past it the sections' own outcome stands.
-use Rattle.std.specs.Prelude.{ℕ, ◌+◌, ◌-◌, ◌^◌, ◌<◌, ◌≤◌, ◌++◌, ◌≡◌}
-use Rattle.std.proofs.Common.{◌∙◌}
+use Rattle.std.specs.Prelude.{ℕ, ◌+◌, ◌-◌, ◌^◌, ◌<◌, ◌≤◌, ◌≡◌}
 use Rattle.alignment.specs.Alignments.{Allowed}
 use Rattle.arena_sections.specs.Ordered.{Ordered}
 use Rattle.arena_sections.specs.Sections.{persistent_start, persistent_done}

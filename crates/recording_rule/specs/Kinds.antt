@@ -1,5 +1,5 @@
 -- Document 004's six recorded kinds, "Codes are 0 to 5 in that order", by the names that TensorFlow Lite Micro prints.
-use Rattle.std.specs.Prelude.{ℕ, ◌<◌, ◌≡◌}
+use Rattle.std.specs.Prelude.{ℕ, ◌≡◌}
 
 -- The kinds.
 pub data Kind : Type 0 where

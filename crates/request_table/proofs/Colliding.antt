@@ -1,5 +1,5 @@
 -- Laws of the definitions of specs/Colliding.antt.
-use Prim.Native.Nat.{ℕ, ◌<◌, ◌≤◌, max}
+use Prim.Native.Nat.{◌<◌, max}
 use Rattle.std.specs.Prelude.{Bool, true, false, ◌&&◌, ◌≡◌, refl, leb}
 use native.Mathlib.Omega.{arith}
 use borrow.Author.Tests.{ltb-true, leb-true, lt-ltb, le-leb}

@@ -1,5 +1,5 @@
 -- Laws of the definitions of specs/CollidingWords.antt.
-use Rattle.std.specs.Prelude.{ℕ, zero, suc, ◌+◌, ◌*◌, ◌/◌, ◌<◌, ◌≤◌, List, ◌↔◌, ◌≡◌, ℤ, pos, ◌≤ℤ◌, ◌<ℤ◌}
+use Rattle.std.specs.Prelude.{ℕ, zero, suc, ◌*◌, ◌/◌, ◌<◌, ◌≤◌, List, ◌≡◌, ℤ, pos, ◌≤ℤ◌, ◌<ℤ◌}
 use Rattle.std.proofs.Common.{sym, subst, div-add-mod', le_antisymm, arith}
 use Rattle.std.proofs.Math.Nat.{mul-mod_left}
 use Rattle.alignment.proofs.Rounding.{up_multiple, up_holds, up_least, up_something, up_nothing}

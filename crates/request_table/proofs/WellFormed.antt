@@ -1,5 +1,5 @@
 -- Laws of the definitions of specs/WellFormed.antt.
-use Rattle.std.specs.Prelude.{ℕ, ◌<◌, ◌≤◌, ◌%◌, List, ◌≡◌, ℤ}
+use Rattle.std.specs.Prelude.{ℕ, ◌≤◌, List, ℤ}
 use Rattle.request_table.specs.CheckLaws.{Checked}
 use Rattle.request_table.proofs.GoodRows.{good_says, good_of}
 use Rattle.request_table.specs.Limits.{greatest_space}

@@ -1,6 +1,5 @@
 -- What it means that two buffers collide, and that two spans share a byte, in plain orders of numbers.
 use Prim.Native.Nat.{ℕ, ◌<◌, ◌≤◌}
-use Rattle.std.specs.Prelude.{◌&&◌, ◌≡◌}
 use Rattle.request_table.specs.Buffers.{end}
 use Rattle.request_table.specs.declared.Buffer.{Buffer}
 

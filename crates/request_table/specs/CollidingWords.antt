@@ -1,7 +1,7 @@
 -- Law: when two rows of a table collide, over their signed words and their offsets, in document 01's words: "The occupied size is the size rounded up to a
 -- multiple of 16. The span starts at the offset and has that length. Two rows live together when first of each ≤ last of the other. Both ends count. Two
 -- rows collide when both are nonempty, live together, and their spans share a byte." Nothing here is said by the definition's own tests.
-use Rattle.std.specs.Prelude.{ℕ, ◌+◌, ◌*◌, ◌/◌, ◌<◌, ◌≤◌, List, ◌↔◌, ◌≡◌, ℤ, pos, ◌≤ℤ◌, ◌<ℤ◌}
+use Rattle.std.specs.Prelude.{ℕ, ◌+◌, ◌*◌, ◌<◌, ◌≤◌, List, ◌≡◌, ℤ, pos, ◌≤ℤ◌, ◌<ℤ◌}
 use Rattle.request_table.specs.Table.{word}
 
 -- "the size rounded up to a multiple of 16": the least multiple of the grid that is at least the size.

@@ -1,6 +1,5 @@
 -- Good rows in signed numbers, as document 01 writes them: the definition, which reads a negative word as a number above every limit, says the same.
-use Rattle.std.specs.Prelude.{ℕ, ◌*◌, ◌/◌, ◌%◌, ◌≤◌, ◌&&◌, ◌||◌, List, ◌⊎◌, ◌≡◌, ℤ, ◌≤ℤ◌}
-use Rattle.std.proofs.Common.{◌∙◌}
+use Rattle.std.specs.Prelude.{ℕ, ◌*◌, ◌≤◌, List, ◌⊎◌, ◌≡◌, ℤ, ◌≤ℤ◌}
 use Rattle.std.proofs.Math.IntN.{pos, negsuc}
 use Rattle.request_table.specs.Limits.{greatest_space, last_moment}
 use Rattle.request_table.specs.Table.{word}

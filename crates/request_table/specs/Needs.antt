@@ -1,7 +1,6 @@
 -- The need of a plan: no nonempty row ends above it, and one of them ends there, or it is 0. A loop that works it out, one row after the other, has
 -- `Needing`; it starts by `needing_start`, turns by `needing_more` and ends by `needing_done`.
-use Rattle.std.specs.Prelude.{ℕ, ◌+◌, ◌<◌, ◌≤◌, List, ◌⊎◌, ◌≡◌, ℤ}
-use Rattle.std.proofs.Common.{◌∙◌}
+use Rattle.std.specs.Prelude.{ℕ, ◌<◌, ◌≤◌, List, ◌≡◌, ℤ}
 use Rattle.bounded.specs.Greatest.{greatest}
 use Rattle.request_table.specs.Table.{rows}
 use Rattle.request_table.specs.Buffers.{buffer_at, end, end_or_zero}

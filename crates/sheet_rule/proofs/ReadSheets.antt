@@ -1,5 +1,5 @@
 -- What a sheet is read as, its table and its space or nothing, and what reading leaves in the lent table.
-use Rattle.std.specs.Prelude.{ℕ, ◌+◌, ◌*◌, ◌%◌, Bool, true, false, not, List, ◌++◌, ◌⊎◌, ◌≡◌, refl, ℤ, length, drop}
+use Rattle.std.specs.Prelude.{ℕ, ◌*◌, ◌%◌, Bool, true, false, not, List, ◌++◌, ◌⊎◌, ◌≡◌, refl, ℤ, length, drop}
 use Rattle.std.proofs.Common.{inl, inr, sym, ◌∙◌, ap, subst, arith, eq-eqb, ne_eqb}
 use Rattle.bounded.proofs.Boolean.{same_or_not}
 use Rattle.bounded.specs.Causes.{Gives}

@@ -1,5 +1,5 @@
 -- Laws of the definitions of specs/SheetExamples.antt.
-use Rattle.std.specs.Prelude.{[], ◌∷◌, ◌++◌, ◌≡◌, refl, ℕ, pos, negsuc}
+use Rattle.std.specs.Prelude.{[], ◌∷◌, ◌++◌, ◌≡◌, refl, pos, negsuc}
 use Rattle.request_table.specs.Limits.{greatest_rows}
 use Rattle.word_bytes.specs.Bytes.{little_endian, signed_word, word_of}
 use Rattle.word_lists.specs.WordLists.{words_from}

@@ -1,8 +1,6 @@
 -- A well-formed sheet in plain terms, both ways: its mark, its version and its length, in either form.
-use Rattle.std.specs.Prelude.{ℕ, ◌+◌, ◌*◌, ◌<◌, ◌≤◌, ◌&&◌, List, [], ◌∷◌, ◌≡◌, get_or}
-use Rattle.std.proofs.Common.{◌∙◌}
+use Rattle.std.specs.Prelude.{ℕ, ◌+◌, ◌*◌, ◌≤◌, List, ◌≡◌, get_or}
 use Rattle.std.proofs.Math.ListN.{length}
-use Rattle.bounded.specs.Causes.{◌⇒◌}
 use Rattle.request_table.specs.Limits.{greatest_rows}
 use Rattle.sheet_rule.specs.Sheet.{version, row_count}
 

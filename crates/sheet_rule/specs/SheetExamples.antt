@@ -1,6 +1,6 @@
 -- Document 01's Sheet A in a space of 1,024, byte by byte: what is read from it, and that it is bad once its version or its length is another. How long
 -- the longest sheets are. And a sheet of version 2.
-use Rattle.std.specs.Prelude.{List, [], ◌∷◌, ◌++◌, ◌≡◌, ℕ, replicate}
+use Rattle.std.specs.Prelude.{List, [], ◌∷◌, ◌++◌, ℕ, replicate}
 
 -- The mark, a version and three rows.
 abbrev pub head_of : ℕ → List ℕ

@@ -1,7 +1,5 @@
 -- `alignment::bytes_lost` meets its contract.
-use Rattle.std.proofs.Common.{refl, le_of_lt, mod-lt, arith, Fits-le, Fits-lit, rules}
-use lib.Bits.{and_le_r}
-use mir.Facts.{Fits-lt}
+use Rattle.std.proofs.Common.{refl}
 use Rattle.alignment.specs.Alignments.{loss}
 use Rattle.alignment.proofs.Masks.{loss_by_bits}
 use Rattle.alignment.proofs.NoGrid.{none_lost}

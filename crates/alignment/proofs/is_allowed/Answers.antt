@@ -1,5 +1,5 @@
 -- `alignment::is_allowed` meets its contract.
-use Rattle.std.proofs.Common.{arith, rules}
+use Rattle.std.proofs.Common.{arith}
 use Rattle.alignment.proofs.Bits.{allowed_by_bits, none_at_0}
 use Rattle.alignment.proofs.is_allowed.Goals as goal
 

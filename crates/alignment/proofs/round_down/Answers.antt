@@ -1,5 +1,5 @@
 -- `alignment::round_down` meets its contract.
-use Rattle.std.proofs.Common.{refl, div-mul-le_self, arith, Fits-le, rules}
+use Rattle.std.proofs.Common.{refl, arith}
 use Rattle.alignment.specs.Rounding.{rounded_down}
 use Rattle.alignment.proofs.Masks.{down_by_bits}
 use Rattle.alignment.proofs.NoGrid.{down_to_none}

@@ -1,5 +1,5 @@
 -- `alignment::round_up` meets its contract.
-use Rattle.std.proofs.Common.{refl, div-mul-le_self, arith, Fits-le, rules}
+use Rattle.std.proofs.Common.{refl, arith}
 use Rattle.alignment.specs.Rounding.{rounded_up}
 use Rattle.alignment.proofs.Masks.{up_by_bits}
 use Rattle.alignment.proofs.NoGrid.{up_to_none}

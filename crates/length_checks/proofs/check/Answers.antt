@@ -1,6 +1,5 @@
 -- `length_checks::check` meets its contract: each way out is the first cause that holds.
 use mathlib.Core.Path.{◌∙◌}
-use borrow.Author.Rules.{rules}
 use Rattle.bounded.proofs.Causes.{given, next, none_left}
 use Rattle.length_checks.proofs.LengthAnswers.{lengths_given}
 use Rattle.length_checks.proofs.check.Goals as goal

@@ -1,5 +1,5 @@
 -- `stored_words::unsigned` meets its contract: by the number's sign.
-use Rattle.std.proofs.Common.{ap, sym}
+use Rattle.std.proofs.Common.{ap}
 use lib.Signed.{pos-nat_abs}
 use Rattle.word_bytes.specs.Bytes.{unsigned_word}
 use Rattle.words.proofs.Signed.{read, castable}

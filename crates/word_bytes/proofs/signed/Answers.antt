@@ -1,13 +1,11 @@
 -- `word_bytes::signed` meets its contract: by the half in which the bits lie.
 use Prim.Native.Nat.{◌-◌, ◌<◌, ◌^◌}
 use native.Mathlib.Omega.{arith}
-use borrow.Author.Rules.{rules}
 use borrow.Author.Tests.{lt-ltb}
-use lib.IntN.{pos}
 use mir.Facts.{to_z_pos}
 use mir.Syntax.{w32}
 use Rattle.word_bytes.specs.Bytes.{signed_word}
-use Rattle.word_bytes.proofs.Turned.{fits, negative}
+use Rattle.word_bytes.proofs.Turned.{negative}
 use Rattle.word_bytes.proofs.signed.Goals as goal
 
 pub returns-then-bits-lt2147483648 : goal.returns-then-bits-lt2147483648

@@ -1,5 +1,4 @@
 -- `word_bytes::unsigned32` meets its contract: its bytes stand 0 to 3 ahead of the place; the definition adds 1 from byte to byte.
-use borrow.Author.Rules.{rules}
 use native.Mathlib.Nat.{add_assoc, add-zero}
 use Rattle.word_bytes.specs.Bytes.{little_endian}
 use Rattle.word_bytes.proofs.unsigned32.Goals as goal

@@ -1,0 +1,11 @@
+-- `proposed_need::need_of` meets its contract: the greatest end of the rows so far.
+use Prim.Native.Nat.{◌-◌}
+use Rattle.request_table.specs.Needs.{Needing}
+use Rattle.inspection_rule.specs.Inspect.{proposed}
+use Rattle.proposed_need.proofs.need_of.Given as goal
+
+abbrev pub invariant-loop-row : goal.invariant-loop-row
+invariant-loop-row l = Needing l.grid l.table (proposed l.offsets) l.need l.row.0
+
+abbrev pub decreases-loop-row : goal.decreases-loop-row
+decreases-loop-row l = l.n - l.row.0
