@@ -4,7 +4,7 @@
 
 ghost use Rattle.std.specs.Prelude.{◌≡◌};
 ghost use Rattle.bounded.specs.First.{holds_below};
-ghost use Rattle.recording_rule.specs.Ledger.{kind_count, nothing_recorded, empty_ledger, of_kind, total_used, passes_used, balanced as balancedAgainst, };
+ghost use Rattle.recording_rule.specs.Ledger.{kind_count, nothing_recorded, empty_ledger, of_kind, total_used, passes_used, balanced as balancedAgainst};
 
 use recording_rule::{Ledger, RecordedAllocation};
 
