@@ -1,5 +1,5 @@
 -- Laws of the definitions of specs/Sheets.antt.
-use Rattle.std.specs.Prelude.{ℕ, [], ◌∷◌, ◌++◌, map, ◌≡◌, refl, ℤ}
+use Rattle.std.specs.Prelude.{map, ◌≡◌, refl}
 use Rattle.alignment.specs.Alignments.{loss, allowed}
 use Rattle.alignment.specs.Powers.{is_power_of_two}
 use Rattle.alignment.specs.Rounding.{rounded_up, rounded_down}

@@ -1,7 +1,7 @@
 -- An example of the law, by which its premises are seen to hold together: the least model whose early output could be planned over. Operator 0 writes
 -- tensor 0, a model output, which no operator names again; operator 1 writes tensor 1. At the last moment the output is read, and its byte is the one that
 -- operator 0 wrote.
-use Rattle.std.specs.Prelude.{ℕ, zero, suc, ◌*◌, ◌+◌, ◌<◌, ◌≤◌, true, List, [], ◌∷◌, ◌≡◌, refl, ℤ, pos, negsuc, length, get_or, replicate}
+use Rattle.std.specs.Prelude.{ℕ, zero, suc, ◌*◌, ◌+◌, ◌<◌, ◌≤◌, true, ◌≡◌, refl, length, get_or}
 use Rattle.std.proofs.Common.{inl, inr, ap, arith, leb-true}
 use Rattle.std.specs.Int.Signed.{le_z_yes, lt_z_yes}
 use Rattle.alignment.specs.Rounding.{rounded_up}
@@ -20,7 +20,7 @@ use Rattle.inspection_rule.proofs.ExactRule.{passed_says, passed_acceptable}
 use Rattle.inspection_rule.specs.Inspect.{moved, off_grid, proposed_need, inspect_of}
 use Rattle.lifetime_rule.specs.FromUses.{out_of_limits, lifetimes_of, final_lifetimes}
 use Rattle.lifetime_rule.specs.Lifetimes.{names, named, gives_out, is_output, first_of, last_of, unnamed, lets, readable, too_early}
-use Rattle.lifetime_rule.specs.Uses.{writes, model_output, use_at, good as good_use}
+use Rattle.lifetime_rule.specs.Uses.{use_at, good as good_use}
 use Rattle.access_rule.specs.Accesses.{greatest_accesses, count, access, moment_before, reaches, good as good_access}
 use Rattle.access_rule.specs.Demand3.{Writes, SameByte, Lent}
 use Rattle.access_rule.specs.GoodScripts.{GoodAccess}

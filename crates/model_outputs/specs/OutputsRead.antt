@@ -6,8 +6,6 @@
 -- byte written there through that output, whatever the others wrote between. It is demand 3 at such a table, over its own definitions: what is added is
 -- that those reads are good touches.
 use Rattle.std.specs.Prelude.{ℕ, ◌+◌, ◌*◌, ◌-◌, ◌<◌, ◌≤◌, List, ◌⊎◌, ◌≡◌, ℤ, pos, length, get_or, ◌≤ℤ◌, ◌<ℤ◌}
-use Rattle.std.proofs.Common.{⊎_elim, ◌∙◌}
-use Rattle.std.specs.Int.Signed.{≤ℤ_refl}
 use Rattle.answer.specs.Answer.{done_with}
 use Rattle.words.specs.Words.{word_at}
 use Rattle.request_table.specs.Table.{rows, word}

@@ -1,5 +1,5 @@
 -- `tensor_lifetimes::judge` meets its contract: the lowest tensor never named, then the lowest use that reads too early.
-use Prim.Native.Nat.{ℕ, ◌<◌, ◌≤◌, zero-le}
+use Prim.Native.Nat.{ℕ, ◌≤◌, zero-le}
 use mathlib.Core.List.{List}
 use mathlib.Core.Path.{◌≡◌, ◌∙◌}
 use native.Mathlib.Omega.{arith}

@@ -1,13 +1,7 @@
 -- `tensor_lifetimes::lowest_early` meets its contract: the scan of the uses.
-use Prim.Native.Nat.{◌-◌, ◌<◌}
-use mathlib.Core.Path.{◌∙◌, sym, subst}
-use native.Mathlib.Omega.{arith}
+use Prim.Native.Nat.{◌-◌}
 use Rattle.bounded.specs.First.{Scan}
-use Rattle.bounded.proofs.First.{scan, pass, hit, out}
-use Rattle.lifetime_rule.specs.Uses.{greatest_tensors}
-use Rattle.lifetime_rule.specs.declared.Use.{Use}
 use Rattle.tensor_lifetimes.specs.Gathered.{early_in}
-use Rattle.tensor_lifetimes.proofs.Judging.{early_test}
 use Rattle.tensor_lifetimes.proofs.lowest_early.Given as goal
 
 abbrev pub invariant-loop-k : goal.invariant-loop-k

@@ -2,10 +2,8 @@
 use Prim.Native.Nat.{◌<◌, ◌≤◌}
 use native.Mathlib.Omega.{arith}
 use borrow.Author.Tests.{le-leb, lt-leb}
-use Rattle.bounded.specs.First.{Scan}
-use Rattle.bounded.proofs.First.{scan, pass, hit, out}
+use Rattle.bounded.proofs.First.{pass, hit, out}
 use Rattle.tensor_lifetimes.specs.Gathered.{lifetime_in}
-use borrow.Author.Rules.{rules}
 use Rattle.tensor_lifetimes.proofs.lowest_unnamed.Goals as goal
 
 pub loop-tensor-preserved : goal.loop-tensor-preserved

@@ -1,9 +1,6 @@
 -- `tensor_lifetimes::lowest_unnamed` meets its contract: the scan of the tensors.
 use Prim.Native.Nat.{◌-◌}
-use native.Mathlib.Omega.{arith}
-use borrow.Author.Tests.{le-leb, lt-leb}
 use Rattle.bounded.specs.First.{Scan}
-use Rattle.bounded.proofs.First.{scan, pass, hit, out}
 use Rattle.tensor_lifetimes.specs.Gathered.{unnamed_in}
 use Rattle.tensor_lifetimes.proofs.lowest_unnamed.Given as goal
 

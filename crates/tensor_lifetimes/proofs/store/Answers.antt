@@ -1,19 +1,17 @@
 -- `tensor_lifetimes::store` meets its contract: the entries so far are replaced.
-use Prim.Native.Nat.{ℕ, ◌-◌, ◌*◌, ◌+◌, ◌≤◌}
+use Prim.Native.Nat.{ℕ, ◌-◌, ◌*◌, ◌+◌}
 use mathlib.Core.List.{List}
-use mathlib.Core.Path.{◌≡◌, sym, ◌∙◌, ap}
+use mathlib.Core.Path.{◌≡◌, sym, ◌∙◌}
 use native.Mathlib.Omega.{arith}
-use borrow.Author.Rules.{sfits_of}
 use lib.IntN.{ℤ, pos}
-use lib.ListN.{length, set, length-set}
+use lib.ListN.{set}
 use mir.Facts.{to_z_pos}
 use mir.Syntax.{w32}
 use Rattle.bounded.specs.Replaced.{replaced}
-use Rattle.bounded.proofs.Replaced.{replaced_none, replaced_length}
+use Rattle.bounded.proofs.Replaced.{replaced_none}
 use Rattle.bounded.proofs.TwoEach.{two_more}
 use Rattle.known_lifetimes.specs.declared.Lifetime.{Lifetime}
 use Rattle.tensor_lifetimes.specs.Gathered.{lifetime_in, stored_word}
-use borrow.Author.Rules.{rules}
 use Rattle.tensor_lifetimes.proofs.store.Goals as goal
 
 -- with the two words of one tensor more

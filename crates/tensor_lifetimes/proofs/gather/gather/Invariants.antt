@@ -1,8 +1,6 @@
 -- `tensor_lifetimes::gather::gather` meets its contract: the uses so far are gathered.
-use Prim.Native.Nat.{◌-◌, ◌<◌, ◌≤◌}
-use native.Mathlib.Omega.{arith}
-use Rattle.lifetime_rule.specs.Uses.{greatest_operators, greatest_tensors}
-use Rattle.tensor_lifetimes.proofs.Gathering.{Gathered, gathered_start, gathered_more, gathered_done, within_limits}
+use Prim.Native.Nat.{◌-◌}
+use Rattle.tensor_lifetimes.proofs.Gathering.{Gathered}
 use Rattle.tensor_lifetimes.proofs.gather.gather.Given as goal
 
 abbrev pub invariant-loop-k : goal.invariant-loop-k
