@@ -1,2 +1,2 @@
-// The inspector's rule has definitions and laws alone, in specs/; its code is `proposals` and `plan_inspector`.
+// The inspector's rule has definitions and laws alone, in specs/ and proofs/; its code is `proposals` and `plan_inspector`.
 #![tactic(auto)]
