@@ -1,0 +1,10 @@
+-- `bench_vectors::functions::fits` is safe and ends.
+use Prim.Native.Nat.{◌-◌, ◌≤◌}
+use lib.ListN.{length}
+use Rattle.bench_vectors.proofs.functions.fits.Given as goal
+
+abbrev pub invariant-loop-field : goal.invariant-loop-field
+invariant-loop-field l = l.field ≤ length l.kinds
+
+abbrev pub decreases-loop-field : goal.decreases-loop-field
+decreases-loop-field l = length l.kinds - l.field

@@ -1,0 +1,11 @@
+-- `bench_vectors::print::bytes` is safe and ends: the words are as many as the array holds, and keep their number.
+use Prim.Native.Nat.{◌≤◌, ◌-◌}
+use mathlib.Core.Path.{◌≡◌}
+use lib.ListN.{length}
+use Rattle.bench_vectors.proofs.print.bytes.Given as goal
+
+abbrev pub invariant-loop-at : goal.invariant-loop-at
+invariant-loop-at g l = (l.at ≤ 66000) × (length l.wide ≡ 66000)
+
+abbrev pub decreases-loop-at : goal.decreases-loop-at
+decreases-loop-at g l = length l.table - l.at

@@ -1,0 +1,9 @@
+-- `bench_vectors::read::is_row` is safe and ends.
+use Prim.Native.Nat.{◌-◌, ◌≤◌}
+use Rattle.bench_vectors.proofs.read.is_row.Given as goal
+
+abbrev pub invariant-loop-place : goal.invariant-loop-place
+invariant-loop-place l = l.place ≤ l.width
+
+abbrev pub decreases-loop-place : goal.decreases-loop-place
+decreases-loop-place l = l.width - l.place
