@@ -1,7 +1,7 @@
 -- Document 01's bench sheets, those marked *, as document 02 corrects them: one table, one statement. Each sheet has what the definitions give and what is
--- wanted, an answer and the words of the table or state after it (offsets; lifetimes; head, temp, tail and usable). The statement is that the two columns
--- are equal, and the checker computes it. A planner's or lives' sheet lends a table of one entry more than it needs, filled with 7, so that what stays is
--- seen too.
+-- wanted, an answer and the words of the table or state after it (offsets; lifetimes; head, temp, tail and usable). The statement, in
+-- proofs/Sheets.antt, is that the two columns are equal, and the checker computes it. A planner's or lives' sheet lends a table of one entry more than it
+-- needs, filled with 7, so that what stays is seen too.
 use Rattle.std.specs.Prelude.{ℕ, List, [], ◌∷◌, ◌++◌, ℤ, pos, negsuc, length}
 use Rattle.answer.specs.Answer.{done_with, done_at, refused, refused_at, refused_pair, refused_need, fixed_rows_collide, need_exceeds_space, no_room, temporaries_out, read_before_written}
 use Rattle.answer.specs.declared.Answer.{Answer}

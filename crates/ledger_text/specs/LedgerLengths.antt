@@ -1,6 +1,6 @@
 -- How long a line of a ledger can be. This file stands behind document 02's own text, so that a definition that gives another text is refused by it before
 -- any code is.
-use Rattle.std.specs.Prelude.{ℕ, ◌<◌, ◌≤◌}
+use Rattle.std.specs.Prelude.{◌<◌}
 use Rattle.recording_rule.specs.declared.RecordedAllocation.{RecordedAllocation}
 
 -- The numbers of a kind are as wide as the code holds them.

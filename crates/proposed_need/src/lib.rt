@@ -8,6 +8,7 @@ ghost use Rattle.inspection_rule.specs.Inspect.{proposed, proposed_need};
 use units::Row;
 
 // The end of the row's span, in 64 bits, which no proposed offset and no size can pass; an empty row counts for nothing.
+#[tactic(auto, using(crate::proofs::Ends::counts, crate::proofs::Ends::empties))]
 fn end_of(grid: u32, table: &[i32], offsets: &[i32], row: Row) -> u64
     ensures { result ≡ end_or_zero (buffer_at grid table.now row.0 (proposed offsets.now row.0)) }
 {
