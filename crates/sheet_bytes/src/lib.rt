@@ -39,6 +39,7 @@ fn is_marked(sheet: &[u8]) -> bool
 }
 
 // How many words a row has; none for a version that there is not.
+#[tactic(auto, using(sheet_rule::proofs::GoodSheets::request_words, sheet_rule::proofs::GoodSheets::shape_words, sheet_rule::proofs::GoodSheets::no_words))]
 fn row_words(version: u32) -> usize
     ensures { result ≡ row_words version }
 {
