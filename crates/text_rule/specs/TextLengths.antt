@@ -1,5 +1,5 @@
 -- How long a text can be: no text over at most `greatest_rows` offsets is longer than `greatest_text`. The bound of the rows is proved for any number of them.
-use Rattle.std.specs.Prelude.{ℕ, ◌+◌, ◌*◌, ◌^◌, ◌≤◌, ◌<◌, ℤ}
+use Rattle.std.specs.Prelude.{◌^◌, ◌<◌}
 use Rattle.answer.specs.declared.Answer.{Answer}
 
 -- The numbers of an answer are as wide as the code holds them: three of 32 bits, the need of 64.
