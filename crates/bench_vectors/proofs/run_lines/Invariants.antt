@@ -1,5 +1,5 @@
 -- `bench_vectors::run_lines` is safe and ends: every turn passes a line.
-use Prim.Native.Nat.{◌+◌, ◌-◌}
+use Rattle.std.proofs.Common.{◌+◌, ◌-◌}
 use Rattle.bench_vectors.proofs.run_lines.Given as goal
 
 abbrev pub invariant-loop-line : goal.invariant-loop-line

@@ -1,6 +1,5 @@
 -- `ledger_vectors::run_all` is safe and ends: every turn passes a number.
-use Prim.Native.Nat.{◌-◌, ◌<◌}
-use lib.ListN.{length}
+use Rattle.std.proofs.Common.{◌-◌, ◌<◌, length}
 use Rattle.ledger_vectors.proofs.run_all.Given as goal
 
 abbrev pub invariant-loop-at : goal.invariant-loop-at

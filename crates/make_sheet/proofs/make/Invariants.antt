@@ -1,6 +1,5 @@
 -- `make_sheet::make` is safe and ends: every turn passes a line, and there are no more lines than bytes passed and one.
-use Prim.Native.Nat.{◌+◌, ◌≤◌, ◌-◌}
-use lib.ListN.{length}
+use Rattle.std.proofs.Common.{◌+◌, ◌-◌, ◌≤◌, length}
 use Rattle.make_sheet.proofs.make.Given as goal
 
 abbrev pub invariant-loop-end : goal.invariant-loop-end

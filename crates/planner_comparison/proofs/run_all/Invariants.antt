@@ -1,7 +1,5 @@
 -- `planner_comparison::run_all` is safe and ends.
-use Prim.Native.Nat.{◌-◌}
-use mathlib.Core.Path.{◌≡◌}
-use lib.ListN.{length}
+use Rattle.std.proofs.Common.{◌≡◌, ◌-◌, length}
 use Rattle.planner_comparison.proofs.run_all.Given as goal
 
 abbrev pub invariant-loop-number : goal.invariant-loop-number

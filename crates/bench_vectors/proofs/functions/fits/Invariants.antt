@@ -1,6 +1,5 @@
 -- `bench_vectors::functions::fits` is safe and ends.
-use Prim.Native.Nat.{◌-◌, ◌≤◌}
-use lib.ListN.{length}
+use Rattle.std.proofs.Common.{◌-◌, ◌≤◌, length}
 use Rattle.bench_vectors.proofs.functions.fits.Given as goal
 
 abbrev pub invariant-loop-field : goal.invariant-loop-field

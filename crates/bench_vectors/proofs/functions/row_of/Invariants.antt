@@ -1,5 +1,5 @@
 -- `bench_vectors::functions::row_of` is safe and ends.
-use Prim.Native.Nat.{◌-◌}
+use Rattle.std.proofs.Common.{◌-◌}
 use Rattle.bench_vectors.proofs.functions.row_of.Given as goal
 
 abbrev pub invariant-loop-row : goal.invariant-loop-row

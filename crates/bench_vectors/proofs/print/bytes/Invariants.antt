@@ -1,7 +1,5 @@
 -- `bench_vectors::print::bytes` is safe and ends: the words are as many as the array holds, and keep their number.
-use Prim.Native.Nat.{◌≤◌, ◌-◌}
-use mathlib.Core.Path.{◌≡◌}
-use lib.ListN.{length}
+use Rattle.std.proofs.Common.{◌≡◌, ◌-◌, ◌≤◌, length}
 use Rattle.bench_vectors.proofs.print.bytes.Given as goal
 
 abbrev pub invariant-loop-at : goal.invariant-loop-at

@@ -1,6 +1,5 @@
 -- `bench_vectors::print::words` is safe and ends: no more entries are counted than were passed.
-use Prim.Native.Nat.{◌≤◌, ◌-◌}
-use lib.ListN.{length}
+use Rattle.std.proofs.Common.{◌-◌, ◌≤◌, length}
 use Rattle.bench_vectors.proofs.print.words.Given as goal
 
 abbrev pub invariant-loop-at : goal.invariant-loop-at

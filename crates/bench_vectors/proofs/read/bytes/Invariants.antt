@@ -1,7 +1,5 @@
 -- `bench_vectors::read::bytes` is safe and ends: no more bytes are put than there are, and those put are there.
-use Prim.Native.Nat.{◌-◌, ◌≤◌}
-use mathlib.Core.Path.{◌≡◌}
-use lib.ListN.{length}
+use Rattle.std.proofs.Common.{◌≡◌, ◌-◌, ◌≤◌, length}
 use Rattle.bench_vectors.proofs.read.bytes.Given as goal
 
 abbrev pub invariant-loop-count : goal.invariant-loop-count

@@ -1,7 +1,5 @@
 -- `bench_vectors::read::fill` is safe and ends: the table keeps its length.
-use Prim.Native.Nat.{◌-◌, ◌≤◌}
-use mathlib.Core.Path.{◌≡◌}
-use lib.ListN.{length}
+use Rattle.std.proofs.Common.{◌≡◌, ◌-◌, ◌≤◌, length}
 use Rattle.bench_vectors.proofs.read.fill.Given as goal
 
 abbrev pub invariant-loop-at : goal.invariant-loop-at

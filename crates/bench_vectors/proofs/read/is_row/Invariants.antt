@@ -1,5 +1,5 @@
 -- `bench_vectors::read::is_row` is safe and ends.
-use Prim.Native.Nat.{◌-◌, ◌≤◌}
+use Rattle.std.proofs.Common.{◌-◌, ◌≤◌}
 use Rattle.bench_vectors.proofs.read.is_row.Given as goal
 
 abbrev pub invariant-loop-place : goal.invariant-loop-place

@@ -1,7 +1,5 @@
 -- `bench_vectors::read::put_all` is safe and ends: every turn passes an entry, and the table keeps its length.
-use Prim.Native.Nat.{◌+◌, ◌-◌}
-use mathlib.Core.Path.{◌≡◌}
-use lib.ListN.{length}
+use Rattle.std.proofs.Common.{◌≡◌, ◌+◌, ◌-◌, length}
 use Rattle.bench_vectors.proofs.read.put_all.Given as goal
 
 abbrev pub invariant-loop-entry : goal.invariant-loop-entry

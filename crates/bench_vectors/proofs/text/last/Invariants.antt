@@ -1,6 +1,5 @@
 -- `bench_vectors::text::last` meets its contract: there are no more separators than bytes passed.
-use Prim.Native.Nat.{◌≤◌, ◌-◌}
-use lib.ListN.{length}
+use Rattle.std.proofs.Common.{◌-◌, ◌≤◌, length}
 use Rattle.bench_vectors.proofs.text.last.Given as goal
 
 abbrev pub invariant-loop-at : goal.invariant-loop-at

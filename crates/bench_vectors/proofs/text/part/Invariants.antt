@@ -1,6 +1,5 @@
 -- `bench_vectors::text::part` is safe and ends: a part starts within the bytes passed.
-use Prim.Native.Nat.{◌≤◌, ◌-◌}
-use lib.ListN.{length}
+use Rattle.std.proofs.Common.{◌-◌, ◌≤◌, length}
 use Rattle.bench_vectors.proofs.text.part.Given as goal
 
 abbrev pub invariant-loop-at : goal.invariant-loop-at

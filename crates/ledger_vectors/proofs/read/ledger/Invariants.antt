@@ -1,5 +1,5 @@
 -- `ledger_vectors::read::ledger` is safe and ends: an entry for each kind is stored.
-use Prim.Native.Nat.{◌-◌, ◌≤◌}
+use Rattle.std.proofs.Common.{◌-◌, ◌≤◌}
 use Rattle.ledger_vectors.proofs.read.ledger.Given as goal
 
 abbrev pub invariant-loop-kind : goal.invariant-loop-kind

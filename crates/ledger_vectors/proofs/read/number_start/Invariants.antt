@@ -1,6 +1,5 @@
 -- `ledger_vectors::read::number_start` meets its contract.
-use Prim.Native.Nat.{◌-◌, ◌≤◌}
-use lib.ListN.{length}
+use Rattle.std.proofs.Common.{◌-◌, ◌≤◌, length}
 use Rattle.ledger_vectors.proofs.read.number_start.Given as goal
 
 abbrev pub invariant-loop-at : goal.invariant-loop-at

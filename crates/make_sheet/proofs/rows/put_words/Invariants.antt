@@ -1,5 +1,5 @@
 -- `make_sheet::rows::put_words` is safe and ends: no row starts so far on that a place in it wraps.
-use Prim.Native.Nat.{◌≤◌, ◌-◌}
+use Rattle.std.proofs.Common.{◌-◌, ◌≤◌}
 use Rattle.make_sheet.proofs.rows.put_words.Given as goal
 
 abbrev pub invariant-loop-turn : goal.invariant-loop-turn

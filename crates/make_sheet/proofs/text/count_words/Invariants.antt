@@ -1,5 +1,5 @@
 -- `make_sheet::text::count_words` meets its contract: the count stays within what is enough.
-use Prim.Native.Nat.{◌≤◌, ◌-◌}
+use Rattle.std.proofs.Common.{◌-◌, ◌≤◌}
 use Rattle.make_sheet.proofs.text.count_words.Given as goal
 
 abbrev pub invariant-loop-count : goal.invariant-loop-count

@@ -1,6 +1,5 @@
 -- `make_sheet::text::find` meets its contract: the place stays between the start and the end.
-use Prim.Native.Nat.{◌≤◌, ◌-◌}
-use lib.ListN.{length}
+use Rattle.std.proofs.Common.{◌-◌, ◌≤◌, length}
 use Rattle.make_sheet.proofs.text.find.Given as goal
 
 abbrev pub invariant-loop-at : goal.invariant-loop-at

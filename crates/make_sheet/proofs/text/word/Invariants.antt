@@ -1,6 +1,5 @@
 -- `make_sheet::text::word` is safe and ends: every turn passes a word, and the start stays within the line.
-use Prim.Native.Nat.{◌≤◌, ◌-◌}
-use lib.ListN.{length}
+use Rattle.std.proofs.Common.{◌-◌, ◌≤◌, length}
 use Rattle.make_sheet.proofs.text.word.Given as goal
 
 abbrev pub invariant-loop-passed : goal.invariant-loop-passed

@@ -1,5 +1,5 @@
 -- `planner_comparison::all_pairs::first_pair` is safe and ends.
-use Prim.Native.Nat.{◌-◌}
+use Rattle.std.proofs.Common.{◌-◌}
 use Rattle.planner_comparison.proofs.all_pairs.first_pair.Given as goal
 
 abbrev pub invariant-loop-a : goal.invariant-loop-a

@@ -1,5 +1,5 @@
 -- `planner_comparison::all_pairs::partner` is safe and ends.
-use Prim.Native.Nat.{◌-◌}
+use Rattle.std.proofs.Common.{◌-◌}
 use Rattle.planner_comparison.proofs.all_pairs.partner.Given as goal
 
 abbrev pub invariant-loop-b : goal.invariant-loop-b

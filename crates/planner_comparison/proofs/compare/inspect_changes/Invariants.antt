@@ -1,7 +1,5 @@
 -- `planner_comparison::compare::inspect_changes` is safe and ends.
-use Prim.Native.Nat.{◌-◌}
-use mathlib.Core.Path.{◌≡◌}
-use lib.ListN.{length}
+use Rattle.std.proofs.Common.{◌≡◌, ◌-◌, length}
 use Rattle.planner_comparison.proofs.compare.inspect_changes.Given as goal
 
 abbrev pub invariant-loop-change : goal.invariant-loop-change

@@ -1,6 +1,5 @@
 -- `planner_comparison::compare::same_table` is safe and ends.
-use Prim.Native.Nat.{◌-◌}
-use lib.ListN.{length}
+use Rattle.std.proofs.Common.{◌-◌, length}
 use Rattle.planner_comparison.proofs.compare.same_table.Given as goal
 
 abbrev pub invariant-loop-at : goal.invariant-loop-at

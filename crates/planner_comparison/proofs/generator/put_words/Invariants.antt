@@ -1,7 +1,5 @@
 -- `planner_comparison::generator::put_words` is safe and ends.
-use Prim.Native.Nat.{◌-◌}
-use mathlib.Core.Path.{◌≡◌}
-use lib.ListN.{length}
+use Rattle.std.proofs.Common.{◌≡◌, ◌-◌, length}
 use Rattle.planner_comparison.proofs.generator.put_words.Given as goal
 
 abbrev pub invariant-loop-at : goal.invariant-loop-at

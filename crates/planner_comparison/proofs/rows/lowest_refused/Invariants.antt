@@ -1,5 +1,5 @@
 -- `planner_comparison::rows::lowest_refused` is safe and ends.
-use Prim.Native.Nat.{◌-◌}
+use Rattle.std.proofs.Common.{◌-◌}
 use Rattle.planner_comparison.proofs.rows.lowest_refused.Given as goal
 
 abbrev pub invariant-loop-row : goal.invariant-loop-row

@@ -1,5 +1,5 @@
 -- `planner_comparison::tally::print_answers` is safe and ends.
-use Prim.Native.Nat.{◌-◌}
+use Rattle.std.proofs.Common.{◌-◌}
 use Rattle.planner_comparison.proofs.tally.print_answers.Given as goal
 
 abbrev pub invariant-loop-number : goal.invariant-loop-number
