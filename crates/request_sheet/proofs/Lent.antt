@@ -1,6 +1,6 @@
 -- What is lent on, table by table, as the code comes to it: the planner's offsets, the requests of good shapes and the words of a sheet.
-use Rattle.std.specs.Prelude.{ℕ, ◌+◌, ◌*◌, ◌%◌, ◌<◌, ◌≤◌, List, [], ◌++◌, ◌≡◌, ℤ, length, take, drop}
-use Rattle.std.proofs.Common.{sym, ◌∙◌, ap, ap₂, subst, arith, length-append, take_at}
+use Rattle.std.specs.Prelude.{ℕ, ◌*◌, ◌%◌, ◌≤◌, List, ◌++◌, ◌≡◌, ℤ, length, take, drop}
+use Rattle.std.proofs.Common.{sym, ◌∙◌, ap, ap₂, arith, length-append, take_at}
 use Rattle.std.proofs.Math.Seq.{length-take-le}
 use Rattle.answer.specs.Answer.{number_of}
 use Rattle.answer.specs.declared.Answer.{Answer}
@@ -9,7 +9,7 @@ use Rattle.request_table.specs.Limits.{greatest_rows, grid}
 use Rattle.request_table.specs.Table.{rows}
 use Rattle.shape_rule.specs.ShapeAnswers.{Fitting}
 use Rattle.shape_rule.proofs.ShapeAnswers.{shapes_decide}
-use Rattle.shape_rule.proofs.SizedRows.{sized_length, sized_rows, stored_rows}
+use Rattle.shape_rule.proofs.SizedRows.{stored_rows}
 use Rattle.shape_rule.specs.ShapeTable.{shape_count}
 use Rattle.shape_rule.specs.Sized.{sized_table, shapes_of, sized_of, final_requests}
 use Rattle.sheet_rule.proofs.GoodSheets.{well_says}
@@ -20,8 +20,8 @@ use Rattle.text_pieces.specs.declared.Reply.TheVariants.{Text}
 use Rattle.text_pieces.proofs.Replied.{stands_as, reply_stands}
 use Rattle.text_rule.specs.Text.{answer_text, offset_in, greatest_text}
 use Rattle.word_lists.proofs.WordsComeBack.{words_length}
-use Rattle.reply_rule.proofs.Replies.{planned_told, shapes_sized}
-use Rattle.reply_rule.specs.Reply.{table_text, shapes_text, reply_text, reply_of, text_after}
+use Rattle.reply_rule.proofs.Replies.{planned_told}
+use Rattle.reply_rule.specs.Reply.{table_text, reply_text, reply_of, text_after}
 
 -- ---- the planner's offsets
 

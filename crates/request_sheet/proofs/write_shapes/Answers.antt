@@ -28,9 +28,9 @@ returns-then-answer-ne-DONE c =
     let p = c.requires in
     let j = judged t c.no_requests-requests.result p.0 p.1 c.no_requests-requests.ensures c.from_shapes-answer.ensures.answer in
     let told =
-        refused_text_lem c.from_shapes-answer.result (offset_in []) 0 c.if-answer-ne-DONE.true
-        ∙ ap refused_text j
-        ∙ shapes_refused t c.args.space (λ z. c.if-answer-ne-DONE.true (ap number_of j ∙ z)) in
+    refused_text_lem c.from_shapes-answer.result (offset_in []) 0 c.if-answer-ne-DONE.true
+    ∙ ap refused_text j
+    ∙ shapes_refused t c.args.space (λ z. c.if-answer-ne-DONE.true (ap number_of j ∙ z)) in
     stands_as told (written {n = 0} (omega arith) p.2 c.write_answer.ensures.count c.write_answer.ensures.bytes)
 
 pub returns : goal.returns
