@@ -4,7 +4,7 @@
 
 ghost use Rattle.std.specs.Prelude.{◌<◌, ◌≤◌, true, ◌≡◌, length};
 ghost use Rattle.bounded.specs.Replaced.{replaced};
-ghost use Rattle.request_table.specs.Limits.{grid as gridOf};
+ghost use Rattle.request_table.specs.Limits.{grid as grid_of};
 ghost use Rattle.access_rule.specs.Accesses.{count as count_of, allowed, greatest_accesses};
 ghost use Rattle.access_rule.specs.Ready.{Ready};
 ghost use Rattle.access_rule.specs.Run.{byte_of, arena_by, byte_by, arena_after, answer_byte};
@@ -105,9 +105,9 @@ pub fn run(
     arena: &mut [u8],
     bytes: &mut [u8],
 ) -> Answer
-    ensures answer { result ≡ script_of gridOf requests.now space offsets.now accesses.now (length arena.old) (length bytes.old) }
-    ensures arena { arena.new ≡ final_arena gridOf requests.now space offsets.now accesses.now arena.old bytes.old }
-    ensures bytes { bytes.new ≡ final_bytes gridOf requests.now space offsets.now accesses.now arena.old bytes.old }
+    ensures answer { result ≡ script_of grid_of requests.now space offsets.now accesses.now (length arena.old) (length bytes.old) }
+    ensures arena { arena.new ≡ final_arena grid_of requests.now space offsets.now accesses.now arena.old bytes.old }
+    ensures bytes { bytes.new ≡ final_bytes grid_of requests.now space offsets.now accesses.now arena.old bytes.old }
 {
     let answer = judge(
         requests::GRID,

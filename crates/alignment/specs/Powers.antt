@@ -1,5 +1,5 @@
 -- Powers of two.
---     isPowerOfTwo n     whether n is 2 ^ k for some k
+--     is_power_of_two n  whether n is 2 ^ k for some k
 -- A reader believes it by `power_says` and `power_of`, which mention no search.
 use Rattle.std.specs.Prelude.{◌≡◌, ℕ, ◌^◌, Bool, nat_eq}
 use Rattle.bounded.specs.First.{holds_below}

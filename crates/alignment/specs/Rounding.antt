@@ -1,6 +1,6 @@
 -- Rounding to a multiple. Up: a row's occupied size, and where a temporary allocation starts. Down: where a persistent allocation starts.
---     roundedUp g n      the least multiple of g that is at least n
---     roundedDown g n    the greatest multiple of g that is at most n
+--     rounded_up g n     the least multiple of g that is at least n
+--     rounded_down g n   the greatest multiple of g that is at most n
 -- A reader believes them by the laws below, for any g above 0. No number is a multiple of 0 but 0, and rounding to it gives 0.
 use Rattle.std.specs.Prelude.{ℕ, ◌+◌, ◌-◌, ◌*◌, ◌/◌}
 

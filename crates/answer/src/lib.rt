@@ -2,7 +2,7 @@
 #![tactic(auto)]
 
 ghost use Rattle.std.specs.Prelude.{◌≡◌};
-ghost use Rattle.answer.specs.Answer.{done_with, done_at, refused as refusedBy, refused_at, refused_pair, refused_need};
+ghost use Rattle.answer.specs.Answer.{done_with, done_at, refused as refused_by, refused_at, refused_pair, refused_need};
 
 #[derive(Clone, Copy)]
 pub struct Answer {
@@ -84,7 +84,7 @@ impl Answer {
 
     // Refused, with nothing carried.
     pub fn refused(number: u32) -> Answer
-        ensures { result ≡ refusedBy number }
+        ensures { result ≡ refused_by number }
     {
         Answer {
             number,

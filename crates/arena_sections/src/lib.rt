@@ -3,7 +3,7 @@
 #![tactic(auto)]
 
 ghost use Rattle.std.specs.Prelude.{◌≡◌};
-ghost use Rattle.arena_sections.specs.Sections.{base_alignment, fresh as freshState, valid, refused_outcome, done_outcome, open_of, allocation_of, persistent_of, temp_of, reset_of, head_of};
+ghost use Rattle.arena_sections.specs.Sections.{base_alignment, fresh as fresh_state, valid, refused_outcome, done_outcome, open_of, allocation_of, persistent_of, temp_of, reset_of, head_of};
 
 use answer::Answer;
 
@@ -54,7 +54,7 @@ impl Sections {
 
     // An arena of which nothing is used.
     fn fresh(usable: u32) -> Sections
-        ensures { result ≡ freshState usable }
+        ensures { result ≡ fresh_state usable }
     {
         Sections {
             head: 0,

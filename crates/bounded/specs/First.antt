@@ -1,6 +1,6 @@
 -- The first index at which a test holds. Every 'lowest' and 'least' of the documents is one of these searches.
---     firstIn p s n      the least k with s ≤ k < n at which p holds, else n (where s ≤ n)
---     holdsBelow p n     whether p holds at some k < n
+--     first_in p s n     the least k with s ≤ k < n at which p holds, else n (where s ≤ n)
+--     holds_below p n    whether p holds at some k < n
 -- A reader believes these by `first_is` and `least_is`, which mention no search. A loop uses `Scan p s n i`: the scan from s has come to i and
 -- found nothing; `scan` starts it, `pass` is one more turn, `hit` leaves it early, `out` runs it to the end.
 use Prim.Native.Nat.{ℕ, zero, suc, ◌+◌, ◌-◌, ◌<◌, ◌≤◌}

@@ -1,5 +1,5 @@
 -- The last index below a bound at which a test holds: the documents' 'highest'.
---     lastIn p n         the greatest k < n at which p holds, else 0
+--     last_in p n        the greatest k < n at which p holds, else 0
 --     end_in p n          one past it; 0 where p holds nowhere
 -- A reader believes them by `last_is`, which mentions no search, and `last_before_end`. A loop keeps the end, which tells none from index 0.
 use Rattle.std.specs.Prelude.{ℕ, zero, suc, ◌<◌, Bool, true, false, ◌≡◌}

@@ -1,7 +1,7 @@
 -- The first pair of indices a < b below a bound at which a test of two holds: the least a, then the least b.
---     pairBelow c n      whether there is such a pair
---     pairFirst c n      its first index
---     pairSecond c n     its second
+--     pair_below c n     whether there is such a pair
+--     pair_first c n     its first index
+--     pair_second c n    its second
 -- For two nested scans, the outer at a and the inner at b: `Outer` and `Inner`, with `inner_out`, `inner_hit` and `outer_out` for their ends.
 use Prim.Native.Nat.{ℕ, ◌+◌, ◌<◌}
 use Rattle.std.specs.Prelude.{Bool, false, ◌≡◌}

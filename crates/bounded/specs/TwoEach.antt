@@ -1,5 +1,5 @@
 -- A table with two entries for each index, as an answer table has "two for each tensor's life" (document 01, "Answer numbers").
---     twoEach f g        entries 2t and 2t + 1 are f t and g t
+--     two_each f g       entries 2t and 2t + 1 are f t and g t
 -- A reader believes it by `two_first` and `two_second`. A loop that stores both turns by `two_more`.
 use Rattle.std.specs.Prelude.{ℕ, ◌/◌, ◌%◌, eqb}
 use Rattle.std.proofs.Math.Bool.{true, false}

@@ -6,7 +6,7 @@ mod order;
 mod place;
 
 ghost use Rattle.std.specs.Prelude.{◌<◌, ◌≤◌, ◌^◌, ◌≡◌, length};
-ghost use Rattle.request_table.specs.Limits.{grid as gridOf, greatest_rows};
+ghost use Rattle.request_table.specs.Limits.{grid as grid_of, greatest_rows};
 ghost use Rattle.request_table.specs.Table.{rows as rows_of};
 ghost use Rattle.greedy_rule.specs.Plan.{plan_of, planned_table};
 ghost use Rattle.greedy_planner.specs.Arrays.{SmallOffsets, stored_table};
@@ -68,8 +68,8 @@ fn fit(grid: u32, table: &[i32], space: u32, offsets: &mut [i32]) -> Answer
 
 // Document 01's planner. Refused: 1 to 7, in that order; done: the need, and the offsets of the greedy rule in the first entries of `offsets`.
 pub fn plan(requests: &[i32], space: u32, offsets: &mut [i32]) -> Answer
-    ensures answer { result ≡ plan_of gridOf requests.now space (length offsets.old) }
-    ensures table { offsets.new ≡ planned_table gridOf requests.now space offsets.old }
+    ensures answer { result ≡ plan_of grid_of requests.now space (length offsets.old) }
+    ensures table { offsets.new ≡ planned_table grid_of requests.now space offsets.old }
 {
     let judged = check(requests::GRID, requests, space, offsets.len());
     if judged.number != Answer::DONE {

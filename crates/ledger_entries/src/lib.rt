@@ -4,7 +4,7 @@
 
 ghost use Rattle.std.specs.Prelude.{◌≡◌};
 ghost use Rattle.bounded.specs.First.{holds_below};
-ghost use Rattle.recording_rule.specs.Ledger.{kind_count, nothing_recorded, empty_ledger, of_kind, total_used, passes_used, balanced as balancedAgainst};
+ghost use Rattle.recording_rule.specs.Ledger.{kind_count, nothing_recorded, empty_ledger, of_kind, total_used, passes_used, balanced as balanced_against};
 
 use recording_rule::{Ledger, RecordedAllocation};
 
@@ -70,7 +70,7 @@ fn some_passes(ledger: Ledger) -> bool
 
 // Whether the ledger agrees with itself and with the bytes that the tail has taken.
 pub fn is_balanced(ledger: Ledger, taken: u32) -> bool
-    ensures { result ≡ balancedAgainst ledger taken }
+    ensures { result ≡ balanced_against ledger taken }
 {
     let passes = some_passes(ledger);
     (total_used(ledger) == taken as u64) & !passes

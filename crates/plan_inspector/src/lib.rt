@@ -4,7 +4,7 @@
 
 ghost use Rattle.std.specs.Prelude.{◌≤◌, ◌≡◌};
 ghost use Rattle.request_table.specs.Buffers.{buffer_at};
-ghost use Rattle.request_table.specs.Limits.{grid as gridOf, greatest_rows};
+ghost use Rattle.request_table.specs.Limits.{grid as grid_of, greatest_rows};
 ghost use Rattle.request_table.specs.Table.{rows as rows_of};
 ghost use Rattle.inspection_rule.specs.Inspect.{proposed, proposed_need, pair_of, proposal_of, inspect_of};
 
@@ -92,7 +92,7 @@ pub fn judge(grid: u32, requests: &[i32], space: u32, offsets: &[i32]) -> Answer
 
 // Document 01's inspector. Refused: 1, 2, 3, 4, 5, 8, 9, 7, 10, in that order; accepted: the need.
 pub fn inspect(requests: &[i32], space: u32, offsets: &[i32]) -> Answer
-    ensures { result ≡ inspect_of gridOf requests.now space offsets.now }
+    ensures { result ≡ inspect_of grid_of requests.now space offsets.now }
 {
     judge(requests::GRID, requests, space, offsets)
 }

@@ -1,5 +1,5 @@
 // Signed 32-bit words at the edge: here they become natural numbers, with which all that judges or plans works.
-// Each takes the slice and the place, and a place outside the slice reads as 0, as getD has it, so that any call is allowed.
+// Each takes the slice and the place, and a place outside the slice reads as 0, as `word_at` has it, so that any call is allowed.
 #![tactic(auto)]
 
 ghost use Rattle.std.specs.Prelude.{◌≡◌, pos};
