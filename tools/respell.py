@@ -3,7 +3,7 @@
 
 usage: python3 tools/respell.py ROOT [NAMES]
 
-Run once, after /opt/rattle/port/port.py. Names of the kit, and what a check names itself, stay. Where two names of one file would fall together, the lemma ends
+Run once, after the port.py of the kit. Names of the kit, and what a check names itself, stay. Where two names of one file would fall together, the lemma ends
 in _lem and the case of an answer in _case. The map of names is read from ROOT's own crates, or from the file NAMES if it is given; it is written to
 tools/names.txt where that file is not there yet.
 """

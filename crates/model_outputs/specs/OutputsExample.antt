@@ -14,6 +14,7 @@ lifetimes = replicate 4 (pos 0)
 abbrev pub table : List ℤ
 table = pos 16 ∷ pos 0 ∷ pos 1 ∷ negsuc 0 ∷ pos 16 ∷ pos 1 ∷ pos 1 ∷ negsuc 0 ∷ []
 
+-- The plan: the output at 0, the other tensor behind it.
 abbrev pub offsets : List ℤ
 offsets = pos 0 ∷ pos 16 ∷ []
 
@@ -21,8 +22,10 @@ offsets = pos 0 ∷ pos 16 ∷ []
 abbrev pub script : List ℤ
 script = pos 0 ∷ pos 0 ∷ pos 3 ∷ pos 7 ∷ pos 1 ∷ pos 1 ∷ pos 3 ∷ pos 8 ∷ pos 1 ∷ pos 0 ∷ pos 3 ∷ negsuc 0 ∷ []
 
+-- The lent arena and the lent byte answers, none of which has a byte that the script writes.
 abbrev pub arena : List ℕ
 arena = replicate 32 85
 
+-- One byte answer for each touch.
 abbrev pub bytes : List ℕ
 bytes = replicate 3 170
