@@ -10,7 +10,7 @@ use Rattle.words.specs.Words.{natural}
 use Rattle.words.specs.WordOrders.{within}
 use Rattle.request_table.specs.Buffers.{buffer_at}
 use Rattle.request_table.specs.Colliding.{Colliding}
-use Rattle.request_table.proofs.GoodRows.{good_offset_lem}
+use Rattle.request_table.proofs.GoodRows.{fixed_small}
 use Rattle.request_table.specs.Limits.{greatest_space}
 use Rattle.request_table.proofs.Needs.{need_same}
 use Rattle.request_table.specs.Table.{rows, word, request, fixed_offset}
@@ -52,7 +52,7 @@ module _ (g : ℕ) (t : List ℤ) (space : ℕ) (lent : List ℤ) (h : 0 < g) (e
         room = omega (arith, plan.long, done.checks.shaped.roomy);
         allowed = done.checks.allowed;
         unmoved = λ r l f.
-            let s : fixed_offset t r ≤ greatest_space = good_offset_lem g (request t r) (done.checks.good_rows r l) (fixed_of t r f) in
+            let s : fixed_offset t r ≤ greatest_space = fixed_small g t r (done.checks.good_rows r l) (fixed_of t r f) in
             plan.entries r l ∙ ap pos (plan.fixed_stay r l (fixed_of t r f) ∙ own_offset t r)
             ∙ sym (within (word t r 3) greatest_space (omega arith) (omega (arith, own_offset t r))).is;
         aligned = λ r l.

@@ -18,13 +18,13 @@ use Rattle.request_table.specs.Table.{rows, word, request}
 use Rattle.inspection_rule.specs.ExactRule.{Passed}
 use Rattle.inspection_rule.proofs.ExactRule.{passed_says, passed_acceptable}
 use Rattle.inspection_rule.specs.Inspect.{proposed, proposed_need}
-use Rattle.access_rule.specs.Accesses.{count, access, good, bad_access}
+use Rattle.access_rule.specs.Accesses.{count, access, reads, written, good, bad_access}
 use Rattle.access_rule.specs.Answers.{Sized}
 use Rattle.access_rule.proofs.Answers.{done_says, touches_decide, touches_passed, touch_refused, done_bytes, refusal_keeps}
 use Rattle.access_rule.specs.GoodAccesses.{Reaches}
 use Rattle.access_rule.proofs.GoodAccesses.{good_says}
 use Rattle.access_rule.specs.GoodScripts.{LivingByte, GoodScript}
-use Rattle.access_rule.proofs.GoodScripts.{rising, script_says, script_of_lem, lowest_bad}
+use Rattle.access_rule.proofs.GoodScripts.{allowed_is, reads_is, written_is, rising, script_says, script_of_lem, lowest_bad}
 use Rattle.access_rule.proofs.Inside.{below_end, end_needed}
 use Rattle.access_rule.proofs.LastWrites.{stands, untouched, read_answer}
 use Rattle.access_rule.specs.OneHolder.{Holds}
@@ -36,25 +36,25 @@ use Rattle.access_rule.specs.Demand3.{Demand3, Lent, Reads, RefusedWhole, SameBy
 -- ---- a touch's words, and the touch as the code has it
 
 -- A touch that reads, as the code has it,
-pub reads_of : (s : List ℤ) (k : ℕ) → Reads s k → (access s k).reads ≡ true
-unfolding access is_minus_one
-reads_of s k e = ap is_minus_one e
+pub reads_of : (s : List ℤ) (k : ℕ) → Reads s k → reads (access s k) ≡ true
+unfolding is_minus_one
+reads_of s k e = reads_is s k ∙ ap is_minus_one e
 
 -- and one that writes.
-pub writes_of : (s : List ℤ) (k v : ℕ) → Writes s k v → ((access s k).reads ≡ false) × ((access s k).value ≡ v)
-unfolding access is_minus_one natural
-writes_of s k v e = (ap is_minus_one e, ap natural e)
+pub writes_of : (s : List ℤ) (k v : ℕ) → Writes s k v → (reads (access s k) ≡ false) × (written (access s k) ≡ v)
+unfolding is_minus_one natural
+writes_of s k v e = let r : reads (access s k) ≡ false = reads_is s k ∙ ap is_minus_one e in (r, written_is s k r ∙ ap natural e)
 
 -- A good touch that does not read writes a byte.
-pub write_says : (t s : List ℤ) (k : ℕ) → good t s k ≡ true → (access s k).reads ≡ false → Writes s k (access s k).value
-unfolding access
+pub write_says : (t s : List ℤ) (k : ℕ) → good t s k ≡ true → reads (access s k) ≡ false → Writes s k (written (access s k))
 write_says t s k e f =
     (within (word s k 3) 255 (omega arith)
-    (⊎-out (either (is_minus_one (word s k 3)) (leb (natural (word s k 3)) 255) (good_says t s k e).1.value))
+    (⊎-out (either (is_minus_one (word s k 3)) (leb (natural (word s k 3)) 255) (sym (allowed_is s k) ∙ (good_says t s k e).1.value)))
     ).is
+    ∙ ap pos (sym (written_is s k f))
   where
     ⊎-out : (is_minus_one (word s k 3) ≡ true) ⊎ (leb (natural (word s k 3)) 255 ≡ true) → natural (word s k 3) ≤ 255
-    ⊎-out (inl q) = contrary q f
+    ⊎-out (inl q) = contrary q (sym (reads_is s k) ∙ f)
     ⊎-out (inr q) = leb-true _ _ q
 
 -- The byte on which a touch falls is the one that the run works on.

@@ -1,10 +1,10 @@
 -- Laws of the definitions of specs/GoodScripts.antt.
 use Prim.Native.Nat.{ℕ, zero, suc, ◌<◌, ◌≤◌}
-use Rattle.std.proofs.Math.Bool.{true}
+use Rattle.std.proofs.Math.Bool.{Bool, true, false}
 use Rattle.std.specs.Prelude.{◌||◌, List, ◌⊎◌, ◌≡◌, leb, ℤ, negsuc, ◌≤ℤ◌, ◌<ℤ◌}
-use Rattle.std.proofs.Common.{inl, inr, sym, eq-or-lt_of_le, le_of_suc-le-suc, leb-true, le-leb, leb→le}
+use Rattle.std.proofs.Common.{inl, inr, sym, ◌∙◌, eq-or-lt_of_le, le_of_suc-le-suc, leb-true, le-leb, leb→le}
 use Rattle.std.proofs.Math.Logic.{⊎_elim}
-use Rattle.std.proofs.Math.Path.{ap, subst}
+use Rattle.std.proofs.Math.Path.{refl, ap, subst}
 use native.Mathlib.Omega.{arith}
 use Rattle.std.proofs.lemmas.Bool.{not-false, not-true}
 use Rattle.std.proofs.Math.IntN.{pos}
@@ -18,7 +18,7 @@ use Rattle.words.specs.WordOrders.{within, le_of, lt_of, of_le, of_lt, natural_o
 use Rattle.request_table.specs.GoodRows.{GoodRow}
 use Rattle.request_table.specs.Limits.{greatest_rows, greatest_space, last_moment}
 use Rattle.request_table.specs.Table.{rows, word, request}
-use Rattle.access_rule.specs.Accesses.{count, access, moment_before, good, bad_access}
+use Rattle.access_rule.specs.Accesses.{count, write_of, access, allowed, reads, written, moment_before, good, bad_access}
 use Rattle.access_rule.specs.GoodAccesses.{Reaches}
 use Rattle.access_rule.proofs.GoodAccesses.{good_says, good_of}
 use Rattle.access_rule.specs.GoodScripts.{GoodAccess, GoodScript, LivingByte}
@@ -34,6 +34,31 @@ value_of : (z : ℤ) → negsuc 0 ≤ℤ z → z ≤ℤ pos 255 → is_minus_one
 unfolding is_minus_one natural
 value_of (pos n) p q = le-leb n 255 (of_le n 255 q)
 value_of (negsuc n) p q = let e : n ≡ 0 = omega (arith, leb→le n 0 p.le) in rw e
+
+-- ---- what a touch reads or writes, by its word
+
+-- Whether it reads,
+pub reads_is : (s : List ℤ) (k : ℕ) → reads (access s k) ≡ is_minus_one (word s k 3)
+unfolding access
+reads_is s k = go (is_minus_one (word s k 3)) refl
+  where
+    go : (b : Bool) → is_minus_one (word s k 3) ≡ b → reads (access s k) ≡ is_minus_one (word s k 3)
+    go true e = rw (e, reads, write_of)
+    go false e = rw (e, reads, write_of)
+
+-- the value of one that does not,
+pub written_is : (s : List ℤ) (k : ℕ) → reads (access s k) ≡ false → written (access s k) ≡ natural (word s k 3)
+unfolding access
+written_is s k e = rw (sym (reads_is s k) ∙ e, written, write_of)
+
+-- and whether it is allowed.
+pub allowed_is : (s : List ℤ) (k : ℕ) → allowed (access s k) ≡ is_minus_one (word s k 3) || leb (natural (word s k 3)) 255
+unfolding access
+allowed_is s k = go (is_minus_one (word s k 3)) refl
+  where
+    go : (b : Bool) → is_minus_one (word s k 3) ≡ b → allowed (access s k) ≡ is_minus_one (word s k 3) || leb (natural (word s k 3)) 255
+    go true e = rw (e, allowed, reads, written, write_of)
+    go false e = rw (e, allowed, reads, written, write_of)
 
 -- ---- one touch of a table of good rows
 
@@ -62,7 +87,7 @@ module _ (g : ℕ) (t s : List ℤ) (rows_good : (r : ℕ) → r < rows t → Go
       let n = x.named in
       let m = (within (word s k 0) last_moment (omega arith) (omega (arith, x.lasting, last_small r n))).is in
       let i = (within (word s k 2) greatest_space (omega arith) (omega (arith, x.inside, size_small r n))).is in
-      let v = value_says (word s k 3) x.value in
+      let v = value_says (word s k 3) (sym (allowed_is s k) ∙ x.value) in
       record {
         row = r;
         names = (within (word s k 1) greatest_rows (omega arith) (omega (arith, n))).is;
@@ -92,7 +117,7 @@ module _ (g : ℕ) (t s : List ℤ) (rows_good : (r : ℕ) → r < rows t → Go
         begun = subst (λ (q : ℕ). natural (word t q 1) ≤ natural (word s k 0)) (sym e) b;
         lasting = subst (λ (q : ℕ). natural (word s k 0) ≤ natural (word t q 2)) (sym e) l;
         inside = subst (λ (q : ℕ). natural (word s k 2) < natural (word t q 0)) (sym e) j;
-        value = value_of (word s k 3) x.value_from x.value_to;
+        value = allowed_is s k ∙ value_of (word s k 3) x.value_from x.value_to;
       }
 
   -- the moment of a touch that reaches a byte is a natural number

@@ -3,12 +3,11 @@
 
 use units::{Moment, Row};
 
-// One touch: a byte of a request row that is read or written at a moment. The value of one that reads says nothing.
-#[derive(Clone, Copy)]
+// One touch: a byte of a request row that is read or written at a moment. One that writes has a value, one that reads has none.
+#[derive(Clone, Copy, PartialEq, Eq)]
 pub struct Access {
     pub moment: Moment,
     pub row: Row,
     pub index: u32,
-    pub reads: bool,
-    pub value: u32,
+    pub write: Option<u32>,
 }

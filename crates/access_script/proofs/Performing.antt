@@ -1,29 +1,38 @@
--- Performing the touches, one after the other.
+-- The lowest bad touch as a caller learns of it, and performing the touches, one after the other.
 use Prim.Native.Nat.{ℕ, ◌+◌, ◌<◌, ◌≤◌}
-use mathlib.Core.Bool.{true, false}
-use mathlib.Core.List.{List}
-use mathlib.Core.Path.{◌≡◌, sym, ◌∙◌, ap, ap₂, subst}
-use native.Mathlib.Omega.{arith}
-use borrow.Author.Tests.{leb-true}
-use lib.IntN.{ℤ}
-use lib.ListN.{length, set}
+use Rattle.std.proofs.Common.{sym, ◌∙◌, ap, ap₂, subst, arith}
+use Rattle.std.specs.Prelude.{true, false, List, Some, None, ◌≡◌, ℤ, length, set}
+use Rattle.std.proofs.lemmas.Iterator.Adapters.{option_map_id}
+use Rattle.bounded.specs.First.{found_of}
+use Rattle.bounded.proofs.Found.{found_some, found_none}
 use Rattle.bounded.specs.Replaced.{replaced}
 use Rattle.bounded.proofs.Replaced.{replaced_none, replaced_more, replaced_length}
 use Rattle.inspection_rule.specs.Inspect.{proposed}
-use Rattle.access_rule.specs.Accesses.{count, access, allowed}
+use Rattle.access_rule.specs.Accesses.{count, access, allowed, reads, written}
 use Rattle.access_rule.specs.Ready.{Ready}
 use Rattle.access_rule.specs.Run.{byte_of, arena_by, byte_by, arena_after, answer_byte}
 use Rattle.access_rule.proofs.RunLaws.{arena_none, arena_more, arena_length}
 use Rattle.access_rule.specs.declared.Access.{Access}
+
+-- What a search that found an index says, and one that found none.
+pub touch_found : (r n : ℕ) {y : ℕ} → found_of r n ≡ Some y → (r < n) × (r ≡ y)
+touch_found r n e = found_some (λ k. k) r n _ (option_map_id (found_of r n) ∙ e)
+
+pub no_touch : (r n : ℕ) → found_of r n ≡ None → n ≤ r
+no_touch r n e = found_none (λ k. k) r n (option_map_id (found_of r n) ∙ e)
 
 -- The place that the code works out is the touch's byte.
 pub byte_is : (o : List ℤ) (a : Access) {p : ℕ} → p ≡ proposed o a.row.0 → p + a.index ≡ byte_of o a
 unfolding byte_of
 byte_is o a e = ap (λ (n : ℕ). n + a.index) e
 
--- An allowed value that does not read is a byte.
-pub value_is_byte : (a : Access) → allowed a ≡ true → a.reads ≡ false → a.value ≤ 255
-value_is_byte a h e = leb-true a.value 255 (rw e at h)
+-- A touch with no value reads,
+pub none_reads : (a : Access) → a.write ≡ None → reads a ≡ true
+none_reads a e = rw (e, reads)
+
+-- and one with a value writes it.
+pub some_writes : (a : Access) {v : ℕ} → a.write ≡ Some v → (reads a ≡ false) × (v ≡ written a)
+some_writes a e = (rw (e, reads), rw (e, written))
 
 -- A touch of a script that is ready falls within the arena, and its value is allowed.
 pub ready_touch : {o s : List ℤ} {held room : ℕ} → Ready o s held room → {j : ℕ} {a : Access} → a ≡ access s j → j < count s → (byte_of o a < held) × (allowed a ≡ true)

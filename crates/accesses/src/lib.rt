@@ -2,13 +2,16 @@
 // of the script's tables. The document's touch is an access here. All is total: any script, any touch, any tables.
 #![tactic(auto)]
 
-ghost use Rattle.std.specs.Prelude.{◌&&◌, ◌≡◌, leb};
-ghost use Rattle.bounded.specs.First.{first_in};
-ghost use Rattle.access_rule.specs.Accesses.{count as count_of, access, reaches, bad_access};
+ghost use Rattle.std.specs.Prelude.{◌≡◌};
+ghost use Rattle.answer.specs.Refusals.{verdict_of};
+ghost use Rattle.bounded.specs.First.{found_in};
+ghost use Rattle.access_rule.specs.Accesses.{count as count_of, access, moment_before, good, bad_access};
 ghost use Rattle.access_rule.specs.Script.{lengths_of};
 
 use access_rule::Access;
-use answer::Answer;
+use answer::Refusal;
+use proposals::Proposal;
+use request_rows::Table;
 use units::{Moment, Row};
 
 // A touch is this many words: moment, request row, index, value.
@@ -28,8 +31,7 @@ pub fn access_at(accesses: &[i32], k: usize) -> Access
             moment: Moment(0),
             row: Row(0),
             index: 0,
-            reads: false,
-            value: 0,
+            write: Some(0),
         };
     }
     let at = k * ACCESS_WORDS;
@@ -38,56 +40,59 @@ pub fn access_at(accesses: &[i32], k: usize) -> Access
     let index = words::natural(accesses, at + 2);
     let reads = words::is_minus_one(accesses, at + 3);
     let value = words::natural(accesses, at + 3);
+    let write = if reads { None } else { Some(value) };
     Access {
         moment: Moment(moment),
         row: Row(row as usize),
         index,
-        reads,
-        value,
+        write,
     }
 }
 
-// A good touch: its moment is at least the one before, it names a row alive at that moment and a byte within the row's size, and its value is allowed.
-fn is_good(table: &[i32], before: Moment, access: Access) -> bool
-    ensures { result ≡ leb before.0 access.moment.0 && reaches table.now access }
+// The moment of the touch before; before the first there is none, and 0 stands for it, as in
+// the definition: every moment is at least that.
+#[tactic(auto, unfolding(access_rule::specs::Accesses::moment_before))]
+fn moment_before(accesses: &[i32], k: usize) -> Moment
+    ensures { result.0 ≡ moment_before accesses.now k }
 {
-    let row = access.row;
-    let request = request_rows::request_at(table, row);
-    let rises = before.0 <= access.moment.0;
-    let listed = row.0 < table.len() / request_table::ROW_WORDS;
-    let alive = (request.first.0 <= access.moment.0) & (access.moment.0 <= request.last.0);
+    if k == 0 {
+        return Moment(0);
+    }
+    access_at(accesses, k - 1).moment
+}
+
+// Whether touch k is good: its moment is at least the one before, it names a row alive at that moment and a byte within the row's size, and its value is
+// allowed.
+fn is_good(table: &Table, accesses: &[i32], k: usize) -> bool
+    ensures { result ≡ good table.now.words.now accesses.now k }
+{
+    let access = access_at(accesses, k);
+    let request = table.request(access.row);
+    let rises = moment_before(accesses, k) <= access.moment;
+    let listed = access.row.0 < table.rows();
+    let alive = (request.first <= access.moment) & (access.moment <= request.last);
     let within = access.index < request.size;
-    let allowed = access.reads | (access.value <= GREATEST_BYTE);
+    let allowed = access.write.is_none_or(|value| value <= GREATEST_BYTE);
     rises & (listed & (alive & (within & allowed)))
 }
 
-// The lowest bad touch, else the number of touches. Each moment is compared with the one before.
-pub fn lowest_bad(table: &[i32], accesses: &[i32]) -> usize
-    ensures { result ≡ first_in (bad_access table.now accesses.now) 0 (count_of accesses.now) }
+// The lowest bad touch, if there is one.
+pub fn lowest_bad(table: &Table, accesses: &[i32]) -> Option<usize>
+    ensures { result ≡ found_in (bad_access table.now.words.now accesses.now) 0 (count_of accesses.now) }
 {
-    let n = accesses.len() / ACCESS_WORDS;
-    let mut before = Moment(0);
-    let mut k = 0;
-    while k < n {
-        let access = access_at(accesses, k);
-        if !is_good(table, before, access) {
-            return k;
-        }
-        before = access.moment;
-        k += 1;
-    }
-    k
+    (0..accesses.len() / ACCESS_WORDS).find(|k| !is_good(table, accesses, *k))
 }
 
 // The checks 1 to 3, each for either of two tables.
-pub fn check_lengths(requests: &[i32], offsets: &[i32], accesses: &[i32], room: usize) -> Answer
-    ensures { result ≡ lengths_of requests.now offsets.now accesses.now room }
+#[tactic(auto, unfolding(length_checks::specs::LengthChecks::lengths_of, access_rule::specs::Script::lengths_of))]
+pub fn check_lengths(proposal: &Proposal, accesses: &[i32], room: usize) -> Result<(), Refusal>
+    ensures { verdict_of result ≡ lengths_of proposal.now.table.words.now proposal.now.offsets.now accesses.now room }
 {
-    let rows = requests.len() / request_table::ROW_WORDS;
+    let rows = proposal.table.rows();
     let count = accesses.len() / ACCESS_WORDS;
-    let ragged = (requests.len() % request_table::ROW_WORDS != 0)
+    let ragged = (proposal.table.words.len() % request_table::ROW_WORDS != 0)
         | (accesses.len() % ACCESS_WORDS != 0);
     let too_many = (request_table::GREATEST_ROWS < rows) | (GREATEST_ACCESSES < count);
-    let too_short = (offsets.len() < rows) | (room < count);
+    let too_short = (proposal.offsets.len() < rows) | (room < count);
     length_checks::check(ragged, too_many, too_short)
 }

@@ -1,6 +1,6 @@
 -- Laws of the definitions of specs/Rounding.antt.
 use Rattle.std.specs.Prelude.{◌≡◌, ℕ, zero, suc, ◌+◌, ◌-◌, ◌*◌, ◌/◌, ◌%◌, ◌<◌, ◌≤◌}
-use Rattle.std.proofs.Common.{⊎_elim, ◌∙◌, mul-zero, zero-mul, suc-mul, mul-le-mul_right, lt_of_mul-lt-mul_right, arith}
+use Rattle.std.proofs.Common.{⊎_elim, ◌∙◌, mul-zero, zero-mul, suc-mul, mul-le-mul_right, lt_of_mul-lt-mul_right, le_antisymm, arith}
 use Rattle.std.proofs.Math.Nat.{div-add-mod', mod-lt, mul-mod_left, div-eq_of_lt, div-mul-le_self, add-mul-mod_self_right}
 use Rattle.bounded.proofs.Boolean.{lt_or_le}
 use Rattle.alignment.specs.Rounding.{rounded_down, rounded_up}
@@ -31,6 +31,13 @@ module _ (g n : ℕ) where
   -- No lower multiple is.
   pub up_least : 0 < g → (m : ℕ) → m % g ≡ 0 → n ≤ m → rounded_up g n ≤ m
   up_least h m e l = ⊎_elim (λ x. omega (arith, up_close h, multiples_apart g m (rounded_up g n) e up_multiple x)) (λ x. x) (lt_or_le m (rounded_up g n))
+
+  -- It is the only multiple within a step above the number.
+  pub up_only : 0 < g → (m : ℕ) → m % g ≡ 0 → n ≤ m → m < n + g → m ≡ rounded_up g n
+  up_only h m e l o =
+      le_antisymm
+      (⊎_elim (λ x. omega (arith, up_holds h, multiples_apart g (rounded_up g n) m up_multiple e x)) (λ x. x) (lt_or_le (rounded_up g n) m))
+      (up_least h m e l)
 
   -- It passes the number by no more than g, whatever g is.
   pub up_most : rounded_up g n ≤ n + g

@@ -14,7 +14,7 @@ pub fn round_up(grid: u32, number: u32) -> u64
     match grid {
         16 => (number as u64 + 15) & !15,
         0 => 0u64,
-        _ => (number as u64 + (grid as u64 - 1)) / grid as u64 * grid as u64,
+        _ => (number as u64).next_multiple_of(grid as u64),
     }
 }
 
@@ -34,18 +34,15 @@ pub fn bytes_lost(grid: u32, start: u64) -> u32
     ensures { result ≡ loss grid start }
 {
     match grid {
-        16 => (std::num::wrapping_sub_u64(0, start) & 15) as u32,
+        16 => (start.wrapping_neg() & 15) as u32,
         0 => 0u32,
         _ => (grid - (start % grid as u64) as u32) % grid,
     }
 }
 
-// Whether the alignment is a power of two up to the grid. A power of two less one has all the bits below its own, and only that.
+// Whether the alignment is a power of two up to the grid.
 pub fn is_allowed(grid: u32, alignment: u32) -> bool
     ensures { result ≡ allowed grid alignment }
 {
-    if alignment == 0 {
-        return false;
-    }
-    (alignment & (alignment - 1) == 0) & (alignment <= grid)
+    alignment.is_power_of_two() & (alignment <= grid)
 }

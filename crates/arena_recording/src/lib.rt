@@ -4,56 +4,54 @@
 
 ghost use Rattle.std.specs.Prelude.{◌-◌, ◌≡◌};
 ghost use Rattle.arena_sections.specs.Sections.{base_alignment};
-ghost use Rattle.recording_rule.specs.Cases.{Recordable};
+ghost use Rattle.recording_rule.specs.Cases.{Recordable, recording_of_step};
+ghost use Rattle.recording_rule.specs.Kinds.{code_of};
 ghost use Rattle.recording_rule.specs.Ledger.{with_keep_of};
-ghost use Rattle.recording_rule.specs.Recording.{recorded_of, recording_of};
+ghost use Rattle.recording_rule.specs.Recording.{recording_of};
 
-use answer::Answer;
-use arena_sections::{Outcome, Sections};
-use recording_rule::{Ledger, Recording};
-
-// The sections' own allocation, with what the ledger refuses told in its place: 13 behind the sections' own 13, and 25 and 2 between 14 and 15. The last
-// three tests are made before the first is told, so that their order can be read off.
-fn judge(sections: Sections, ledger: Ledger, kind: u32, size: u32, alignment: u32) -> Outcome
-    ensures { result ≡ recorded_of base_alignment sections ledger kind size alignment }
-{
-    let allocation = sections.allocate_persistent(size, alignment);
-    let told = allocation.answer.number;
-    let misaligned = told == Answer::BAD_ALIGNMENT;
-    let unnamed = Ledger::KINDS <= kind;
-    let full = Ledger::GREATEST_COUNT <= ledger_entries::of_kind(ledger, kind).count;
-    if told == Answer::SECTIONS_NOT_VALID {
-        return allocation;
-    }
-    let taken = sections.usable - sections.tail;
-    if !ledger_entries::is_balanced(ledger, taken) {
-        return Outcome::refused(Answer::SECTIONS_NOT_VALID, sections);
-    }
-    if misaligned {
-        return Outcome::refused(Answer::BAD_ALIGNMENT, sections);
-    }
-    if unnamed {
-        return Outcome::refused(Answer::BAD_ALLOCATION_KIND, sections);
-    }
-    if full {
-        return Outcome::refused(Answer::TOO_MANY, sections);
-    }
-    allocation
-}
+use answer::{Answer, Cause, Refusal};
+use arena_sections::Sections;
+use recording_rule::{Kind, Ledger, Recording};
 
 // The ledger with one allocation more of a kind, which took its size and gap from the tail.
-fn with_allocation(ledger: Ledger, kind: u32, size: u32, taken: u32) -> Ledger
-    requires { Recordable ledger kind size taken }
-    ensures { result ≡ with_keep_of ledger kind size (taken - size) }
+fn with_allocation(ledger: Ledger, kind: Kind, size: u32, taken: u32) -> Ledger
+    requires { Recordable ledger (code_of kind) size taken }
+    ensures { result ≡ with_keep_of ledger (code_of kind) size (taken - size) }
 {
-    let mut recorded = ledger_entries::of_kind(ledger, kind);
+    let entry = kind as usize;
+    let mut next = ledger;
+    let recorded = &mut next.kinds[entry];
     recorded.requested += size;
     recorded.used += taken;
     recorded.count += 1;
-    let entry = kind as usize;
-    let mut next = ledger;
-    next.kinds[entry] = recorded;
     next
+}
+
+// The start, the sections' next state and the next ledger. What the ledger refuses stands among the sections' own refusals: 13 behind their own 13, and 25
+// and 2 between 14 and 15.
+fn try_allocate_persistent(
+    sections: Sections,
+    ledger: Ledger,
+    code: u32,
+    size: u32,
+    alignment: u32,
+) -> Result<(u32, Sections, Ledger), Cause>
+    ensures { recording_of_step result sections ledger ≡ recording_of base_alignment sections ledger code size alignment }
+{
+    if !sections.is_valid() {
+        return Err(Cause::SectionsNotValid);
+    }
+    if !ledger_entries::is_balanced(ledger, sections.usable - sections.tail) {
+        return Err(Cause::SectionsNotValid);
+    }
+    sections.check_allocation(alignment)?;
+    let kind = Kind::try_from(code)?;
+    if Ledger::GREATEST_COUNT <= ledger_entries::of_kind(ledger, code).count {
+        return Err(Cause::TooMany);
+    }
+    let (start, next) = sections.try_allocate_persistent(size, alignment)?;
+    let taken = sections.tail - next.tail;
+    Ok((start, next, with_allocation(ledger, kind, size, taken)))
 }
 
 // Document 02's keep through the ledger, as one of the kinds. Refused: 13, 14, 25, 2, 15, and sections and ledger come back as they were; done: a is the
@@ -67,20 +65,16 @@ pub fn allocate_persistent(
 ) -> Recording
     ensures { result ≡ recording_of base_alignment sections ledger kind size alignment }
 {
-    let outcome = judge(sections, ledger, kind, size, alignment);
-    let answer = outcome.answer;
-    let next = outcome.sections;
-    if answer.number != Answer::DONE {
-        return Recording {
-            answer,
+    match try_allocate_persistent(sections, ledger, kind, size, alignment) {
+        Ok((start, next, recorded)) => Recording {
+            answer: Answer::done_at(start),
             sections: next,
+            ledger: recorded,
+        },
+        Err(cause) => Recording {
+            answer: Answer::from(Refusal::of(cause)),
+            sections,
             ledger,
-        };
-    }
-    let taken = sections.tail - next.tail;
-    Recording {
-        answer,
-        sections: next,
-        ledger: with_allocation(ledger, kind, size, taken),
+        },
     }
 }

@@ -5,3 +5,4 @@ pub mod Ordered
 pub mod Outcomes
 pub mod Room
 pub mod SoundHistory
+pub mod Subtracted

@@ -3,12 +3,14 @@
 #![tactic(auto)]
 
 ghost use Rattle.std.specs.Prelude.{◌≡◌};
-ghost use Rattle.arena_sections.specs.Sections.{base_alignment, fresh as fresh_state, valid, refused_outcome, done_outcome, open_of, allocation_of, persistent_of, temp_of, reset_of, head_of};
+ghost use Rattle.answer.specs.Refusals.{number_of_cause};
+ghost use Rattle.arena_sections.specs.Cases.{outcome_by, checked_by};
+ghost use Rattle.arena_sections.specs.Sections.{base_alignment, zeros, fresh as fresh_state, valid, refused_outcome, open_of, allocation_of, persistent_of, temp_of, reset_of, head_of};
 
-use answer::Answer;
+use answer::{Answer, Cause, Refusal};
 
 // Where the sections end. In a valid state head ≤ temp ≤ tail ≤ usable ≤ GREATEST_LENGTH.
-#[derive(Clone, Copy)]
+#[derive(Clone, Copy, Debug, PartialEq, Eq)]
 pub struct Sections {
     pub head: u32,
     pub temp: u32,
@@ -17,30 +19,34 @@ pub struct Sections {
 }
 
 // An operation's answer, with the next state.
-#[derive(Clone, Copy)]
+#[derive(Clone, Copy, Debug, PartialEq, Eq)]
 pub struct Outcome {
     pub answer: Answer,
     pub sections: Sections,
 }
 
 impl Outcome {
-    // Refused by a number; this state is handed back. Whoever refuses before the sections do makes its outcome by this too.
-    pub fn refused(number: u32, sections: Sections) -> Outcome
-        ensures { result ≡ refused_outcome number sections }
+    // Refused for a cause; this state is handed back.
+    pub fn refused(cause: Cause, sections: Sections) -> Outcome
+        ensures { result ≡ refused_outcome (number_of_cause cause) sections }
     {
         Outcome {
-            answer: Answer::refused(number),
+            answer: Answer::from(Refusal::of(cause)),
             sections,
         }
     }
 
-    // Done, with the start of what was allocated and the next state.
-    fn done(start: u32, sections: Sections) -> Outcome
-        ensures { result ≡ done_outcome start sections }
+    // What came of an operation: done with the start and the next state, or refused, and this state is handed back. An operation that starts nothing
+    // gives 0 for the start.
+    pub fn of(step: Result<(u32, Sections), Cause>, sections: Sections) -> Outcome
+        ensures { result ≡ outcome_by step sections }
     {
-        Outcome {
-            answer: Answer::done_at(start),
-            sections,
+        match step {
+            Ok((start, next)) => Outcome {
+                answer: Answer::done_at(start),
+                sections: next,
+            },
+            Err(cause) => Outcome::refused(cause, sections),
         }
     }
 }
@@ -68,112 +74,142 @@ impl Sections {
     pub fn open(start: u64, length: u64) -> Outcome
         ensures { result ≡ open_of base_alignment start length }
     {
+        Outcome::of(Sections::try_open(start, length), Sections::fresh(0))
+    }
+
+    // The arena that `open` opens.
+    fn try_open(start: u64, length: u64) -> Result<(u32, Sections), Cause>
+        ensures { outcome_by result zeros ≡ open_of base_alignment start length }
+    {
         let lost = alignment::bytes_lost(Sections::BASE_ALIGNMENT, start) as u64;
-        let zeros = Sections::fresh(0);
-        if length < lost {
-            return Outcome::refused(Answer::SECTIONS_NOT_VALID, zeros);
-        }
-        let usable = length - lost;
+        let usable = length.checked_sub(lost).ok_or(Cause::SectionsNotValid)?;
         if (Sections::GREATEST_LENGTH as u64) < usable {
-            return Outcome::refused(Answer::SECTIONS_NOT_VALID, zeros);
+            return Err(Cause::SectionsNotValid);
         }
-        Outcome::done(0, Sections::fresh(usable as u32))
+        Ok((0, Sections::fresh(usable as u32)))
     }
 
     // Whether this is a state that the operations work on.
-    fn is_valid(self) -> bool
+    #[tactic(auto, unfolding(crate::specs::Sections::valid))]
+    pub fn is_valid(self) -> bool
         ensures { result ≡ valid self }
     {
         let temporaries = (self.head <= self.temp) & (self.temp <= self.tail);
         temporaries & ((self.tail <= self.usable) & (self.usable <= Sections::GREATEST_LENGTH))
     }
 
-    // The checks 13 and 14, with which both allocations begin: the number of the first that fails, or done. Each is known before the first is told, so
-    // that their order can be read off.
-    fn check_allocation(self, alignment: u32) -> u32
-        ensures { result ≡ (allocation_of base_alignment self alignment).answer.number }
+    // The checks 13 and 14, with which both allocations begin. Each is known before the first is told, so that their order can be read off.
+    #[tactic(auto, unfolding(crate::specs::Sections::allocation_of))]
+    pub fn check_allocation(self, alignment: u32) -> Result<(), Cause>
+        ensures { checked_by result self ≡ allocation_of base_alignment self alignment }
     {
         let valid = self.is_valid();
         let allowed = alignment::is_allowed(Sections::BASE_ALIGNMENT, alignment);
         if !valid {
-            return Answer::SECTIONS_NOT_VALID;
+            return Err(Cause::SectionsNotValid);
         }
         if !allowed {
-            return Answer::BAD_ALIGNMENT;
+            return Err(Cause::BadAlignment);
         }
-        Answer::DONE
+        Ok(())
     }
 
-    // Document 01's keep: allocates at the tail, for as long as the arena is used. Refused: 13, 14, 15; done: a is the start. TensorFlow Lite Micro compares
-    // the start with the head only; here no temporary is ever met.
+    // Document 01's keep: allocates at the tail, for as long as the arena is used. Refused: 13, 14, 15; done: a is the start.
     pub fn allocate_persistent(self, size: u32, alignment: u32) -> Outcome
         ensures { result ≡ persistent_of base_alignment self size alignment }
     {
-        let refusal = self.check_allocation(alignment);
-        if refusal != Answer::DONE {
-            return Outcome::refused(refusal, self);
+        Outcome::of(self.try_allocate_persistent(size, alignment), self)
+    }
+
+    // The start and the next state of a keep. TensorFlow Lite Micro compares the start with the head only; here no temporary is ever met.
+    pub fn try_allocate_persistent(
+        self,
+        size: u32,
+        alignment: u32,
+    ) -> Result<(u32, Sections), Cause>
+        ensures { outcome_by result self ≡ persistent_of base_alignment self size alignment }
+    {
+        self.check_allocation(alignment)?;
+        let room = self.tail.checked_sub(size).ok_or(Cause::NoRoom)?;
+        let start = alignment::round_down(alignment, room);
+        if start < self.temp {
+            return Err(Cause::NoRoom);
         }
-        if self.tail < size {
-            return Outcome::refused(Answer::NO_ROOM, self);
-        }
-        let start = alignment::round_down(alignment, self.tail - size);
-        let mut next = self;
-        next.tail = start;
-        if self.temp <= start {
-            return Outcome::done(start, next);
-        }
-        Outcome::refused(Answer::NO_ROOM, self)
+        let next = Sections {
+            tail: start,
+            ..self
+        };
+        Ok((start, next))
     }
 
     // Document 01's borrow: allocates above the temporaries, until they are reset. Refused: 13, 14, 15; done: a is the start.
     pub fn allocate_temp(self, size: u32, alignment: u32) -> Outcome
         ensures { result ≡ temp_of base_alignment self size alignment }
     {
-        let refusal = self.check_allocation(alignment);
-        if refusal != Answer::DONE {
-            return Outcome::refused(refusal, self);
-        }
+        Outcome::of(self.try_allocate_temp(size, alignment), self)
+    }
+
+    // The start and the next state of a borrow.
+    fn try_allocate_temp(self, size: u32, alignment: u32) -> Result<(u32, Sections), Cause>
+        ensures { outcome_by result self ≡ temp_of base_alignment self size alignment }
+    {
+        self.check_allocation(alignment)?;
         let start = alignment::round_up(alignment, self.temp);
         let end = start + size as u64;
         if (self.tail as u64) < end {
-            return Outcome::refused(Answer::NO_ROOM, self);
+            return Err(Cause::NoRoom);
         }
-        let mut next = self;
-        next.temp = end as u32;
-        Outcome::done(start as u32, next)
+        let next = Sections {
+            temp: end as u32,
+            ..self
+        };
+        Ok((start as u32, next))
     }
 
     // Gives every temporary allocation back. Refused: 13.
+    #[tactic(auto, unfolding(crate::specs::Sections::reset_of))]
     pub fn reset_temp(self) -> Outcome
         ensures { result ≡ reset_of self }
     {
         if !self.is_valid() {
-            return Outcome::refused(Answer::SECTIONS_NOT_VALID, self);
+            return Outcome::refused(Cause::SectionsNotValid, self);
         }
-        let mut next = self;
-        next.temp = self.head;
-        Outcome::done(0, next)
+        let next = Sections {
+            temp: self.head,
+            ..self
+        };
+        Outcome::of(Ok((0, next)), self)
     }
 
     // Gives the head section a length; temporaries must be reset before. Refused: 13, 16, 17, 15.
     pub fn set_head(self, length: u32) -> Outcome
         ensures { result ≡ head_of self length }
     {
+        Outcome::of(self.try_set_head(length), self)
+    }
+
+    // The next state with a head of that length.
+    #[tactic(auto, unfolding(crate::specs::Sections::head_of))]
+    fn try_set_head(self, length: u32) -> Result<(u32, Sections), Cause>
+        ensures { outcome_by result self ≡ head_of self length }
+    {
         if !self.is_valid() {
-            return Outcome::refused(Answer::SECTIONS_NOT_VALID, self);
+            return Err(Cause::SectionsNotValid);
         }
         if self.temp != self.head {
-            return Outcome::refused(Answer::TEMPORARIES_OUT, self);
+            return Err(Cause::TemporariesOut);
         }
         if length < self.head {
-            return Outcome::refused(Answer::HEAD_MADE_SMALLER, self);
+            return Err(Cause::HeadMadeSmaller);
         }
         if self.tail < length {
-            return Outcome::refused(Answer::NO_ROOM, self);
+            return Err(Cause::NoRoom);
         }
-        let mut next = self;
-        next.head = length;
-        next.temp = length;
-        Outcome::done(0, next)
+        let next = Sections {
+            head: length,
+            temp: length,
+            ..self
+        };
+        Ok((0, next))
     }
 }

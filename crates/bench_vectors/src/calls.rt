@@ -1,149 +1,154 @@
 // The public functions that a vector can name. Each reads the fields after the colon, calls, and prints what came of it. A lent table is filled with a
 // number that no vector writes.
-use crate::{functions, print, read, text};
+use crate::fault::Fault;
+use crate::print;
+use crate::read::Fields;
 use arena_sections::{Outcome, Sections};
-use std::io;
+
+// What stands in lent tables before the call.
+const LENT_WORD: i32 = 9999;
+
+const LENT_BYTE: u8 = 170;
+
+const ARENA_BYTE: u8 = 85;
 
 // Requests; space; room for offsets.
-fn plan_requests(rt: &impl Print, body: &[u8]) -> io::Result<()> {
-    let mut table = read::words_of(0);
-    let mut lent = read::words_of(9999);
-    let requests = read::table(body, 0, &mut table);
-    let offsets = read::lent_words(body, 2, &mut lent);
-    print::answer(
-        rt,
-        greedy_planner::plan(requests, read::number(body, 1), offsets),
-    )?;
-    print::words(rt, b"; offsets", offsets)
+fn plan_requests(rt: &impl Print, mut fields: Fields<'_>) -> Result<(), Fault> {
+    let requests = fields.words()?;
+    let space = fields.number()?;
+    let mut offsets = fields.lent(LENT_WORD)?;
+    fields.end()?;
+    print::answer(rt, greedy_planner::plan(&requests, space, &mut offsets))?;
+    Ok(print::table(rt, "offsets", &offsets)?)
 }
 
-// The script's own fields, over a plan that was read: accesses; arena length; room for byte answers.
-fn run_script(
-    rt: &impl Print,
-    body: &[u8],
-    requests: &[i32],
-    space: u32,
-    offsets: &[i32],
-) -> io::Result<()> {
-    let mut accesses = read::words_of(0);
-    let mut arena = read::bytes_of(85);
-    let mut bytes = read::bytes_of(170);
-    let script = read::table(body, 3, &mut accesses);
-    let held = read::lent_bytes(body, 4, &mut arena);
-    let room = read::lent_bytes(body, 5, &mut bytes);
-    print::answer(
-        rt,
-        access_script::run(requests, space, offsets, script, held, room),
-    )?;
-    print::left(rt, room, held)
+// Requests; space; offsets.
+fn inspect(rt: &impl Print, mut fields: Fields<'_>) -> Result<(), Fault> {
+    let requests = fields.words()?;
+    let space = fields.number()?;
+    let offsets = fields.words()?;
+    fields.end()?;
+    Ok(print::answer(rt, plan_inspector::inspect(&requests, space, &offsets))?)
 }
 
-// Inspects a plan, or runs a script over it. Requests; space; offsets; and the script's fields.
-fn judge(rt: &impl Print, function: usize, body: &[u8]) -> io::Result<()> {
-    let mut requests = read::words_of(0);
-    let mut offsets = read::words_of(0);
-    let rows = read::table(body, 0, &mut requests);
-    let space = read::number(body, 1);
-    let proposal = read::table(body, 2, &mut offsets);
-    if function == functions::INSPECT {
-        return print::answer(rt, plan_inspector::inspect(rows, space, proposal));
-    }
-    run_script(rt, body, rows, space, proposal)
+// Requests; space; offsets; accesses; arena length; room for byte answers.
+fn run_script(rt: &impl Print, mut fields: Fields<'_>) -> Result<(), Fault> {
+    let requests = fields.words()?;
+    let space = fields.number()?;
+    let offsets = fields.words()?;
+    let accesses = fields.words()?;
+    let mut arena = fields.lent(ARENA_BYTE)?;
+    let mut bytes = fields.lent(LENT_BYTE)?;
+    fields.end()?;
+    print::answer(
+        rt,
+        access_script::run(
+            &requests, space, &offsets, &accesses, &mut arena, &mut bytes,
+        ),
+    )?;
+    print::table(rt, "bytes", &bytes)?;
+    Ok(print::table(rt, "arena", &arena)?)
 }
 
 // Operators; tensors; uses; room for lifetimes.
-fn from_uses(rt: &impl Print, body: &[u8]) -> io::Result<()> {
-    let mut table = read::words_of(0);
-    let mut lent = read::words_of(9999);
-    let uses = read::table(body, 2, &mut table);
-    let lifetimes = read::lent_words(body, 3, &mut lent);
+fn from_uses(rt: &impl Print, mut fields: Fields<'_>) -> Result<(), Fault> {
+    let operators = fields.number()?;
+    let tensors = fields.number()?;
+    let uses = fields.words()?;
+    let mut lifetimes = fields.lent(LENT_WORD)?;
+    fields.end()?;
     print::answer(
         rt,
-        tensor_lifetimes::from_uses(
-            read::number(body, 0),
-            read::number(body, 1),
-            uses,
-            lifetimes,
-        ),
+        tensor_lifetimes::from_uses(operators, tensors, &uses, &mut lifetimes),
     )?;
-    print::words(rt, b"; lifetimes", lifetimes)
+    Ok(print::table(rt, "lifetimes", &lifetimes)?)
 }
 
 // A plan's bytes; tensors; room for offsets.
-fn read_plan(rt: &impl Print, body: &[u8]) -> io::Result<()> {
-    let mut bytes = read::bytes_of(0);
-    let mut lent = read::words_of(9999);
-    let plan = read::bytes(body, 0, &mut bytes);
-    let offsets = read::lent_words(body, 2, &mut lent);
-    print::answer(rt, offline_plan::read(plan, read::number(body, 1), offsets))?;
-    print::words(rt, b"; offsets", offsets)
+fn read_plan(rt: &impl Print, mut fields: Fields<'_>) -> Result<(), Fault> {
+    let plan = fields.bytes()?;
+    let tensors = fields.number()?;
+    let mut offsets = fields.lent(LENT_WORD)?;
+    fields.end()?;
+    print::answer(rt, offline_plan::read(&plan, tensors, &mut offsets))?;
+    Ok(print::table(rt, "offsets", &offsets)?)
 }
 
 // Offsets; room for bytes.
-fn write_plan(rt: &impl Print, body: &[u8]) -> io::Result<()> {
-    let mut table = read::words_of(0);
-    let mut lent = read::bytes_of(170);
-    let offsets = read::table(body, 0, &mut table);
-    let bytes = read::lent_bytes(body, 1, &mut lent);
-    print::answer(rt, offline_plan::write(offsets, bytes))?;
-    print::bytes(rt, b"; bytes", bytes)
+fn write_plan(rt: &impl Print, mut fields: Fields<'_>) -> Result<(), Fault> {
+    let offsets = fields.words()?;
+    let mut bytes = fields.lent(LENT_BYTE)?;
+    fields.end()?;
+    print::answer(rt, offline_plan::write(&offsets, &mut bytes))?;
+    Ok(print::table(rt, "bytes", &bytes)?)
 }
 
 // A sheet's bytes; room for text.
-fn reply_to(rt: &impl Print, body: &[u8]) -> io::Result<()> {
-    let mut bytes = read::bytes_of(0);
-    let mut lent = read::bytes_of(170);
-    let sheet = read::bytes(body, 0, &mut bytes);
-    let text = read::lent_bytes(body, 1, &mut lent);
-    print::reply(rt, request_sheet::reply(sheet, text))?;
-    print::bytes(rt, b"; bytes", text)
+fn reply_to(rt: &impl Print, mut fields: Fields<'_>) -> Result<(), Fault> {
+    let sheet = fields.bytes()?;
+    let mut text = fields.lent(LENT_BYTE)?;
+    fields.end()?;
+    print::reply(rt, request_sheet::reply(&sheet, &mut text))?;
+    Ok(print::table(rt, "bytes", &text)?)
 }
 
 // Dimensions; type code.
-fn byte_size(rt: &impl Print, body: &[u8]) -> io::Result<()> {
-    let mut table = read::words_of(0);
-    let dimensions = read::table(body, 0, &mut table);
-    let type_code = read::word(text::part(body, 1, b';')).value;
-    print::answer(rt, tensor_sizes::byte_size(dimensions, type_code))
+fn byte_size(rt: &impl Print, mut fields: Fields<'_>) -> Result<(), Fault> {
+    let dimensions = fields.words()?;
+    let type_code = fields.word()?;
+    fields.end()?;
+    Ok(print::answer(rt, tensor_sizes::byte_size(&dimensions, type_code))?)
 }
 
 // Shapes; room for requests.
-fn from_shapes(rt: &impl Print, body: &[u8]) -> io::Result<()> {
-    let mut table = read::words_of(0);
-    let mut lent = read::words_of(9999);
-    let shapes = read::table(body, 0, &mut table);
-    let requests = read::lent_words(body, 1, &mut lent);
-    print::answer(rt, shaped_requests::from_shapes(shapes, requests))?;
-    print::words(rt, b"; requests", requests)
+fn from_shapes(rt: &impl Print, mut fields: Fields<'_>) -> Result<(), Fault> {
+    let shapes = fields.words()?;
+    let mut requests = fields.lent(LENT_WORD)?;
+    fields.end()?;
+    print::answer(rt, shaped_requests::from_shapes(&shapes, &mut requests))?;
+    Ok(print::table(rt, "requests", &requests)?)
 }
 
-// What a function of the sections answers and hands back. Opening them takes start; length. The others take head; temp; tail; usable; and two arguments,
-// of which the reset takes none and setting the head one.
-fn operate(function: usize, body: &[u8]) -> Outcome {
-    let sections = read::sections(body);
-    let first = read::number(body, 4);
-    let second = read::number(body, 5);
-    match function {
-        functions::OPEN => Sections::open(read::long(body, 0) as u64, read::long(body, 1) as u64),
-        functions::ALLOCATE_PERSISTENT => sections.allocate_persistent(first, second),
-        functions::ALLOCATE_TEMP => sections.allocate_temp(first, second),
-        functions::RESET_TEMP => sections.reset_temp(),
-        _ => sections.set_head(first),
-    }
+// Start; length.
+fn open(rt: &impl Print, mut fields: Fields<'_>) -> Result<(), Fault> {
+    let start = fields.long()?;
+    let length = fields.long()?;
+    fields.end()?;
+    Ok(print::outcome(rt, Sections::open(start, length))?)
 }
 
-// Calls the function of that number.
-pub(crate) fn call(rt: &impl Print, function: usize, body: &[u8]) -> io::Result<()> {
-    match function {
-        functions::PLAN => plan_requests(rt, body),
-        functions::INSPECT | functions::RUN => judge(rt, function, body),
-        functions::FROM_USES => from_uses(rt, body),
-        functions::READ => read_plan(rt, body),
-        functions::WRITE => write_plan(rt, body),
-        functions::REPLY => reply_to(rt, body),
-        functions::BYTE_SIZE => byte_size(rt, body),
-        functions::FROM_SHAPES => from_shapes(rt, body),
-        functions::NONE => print::text(rt, b" not a vector"),
-        _ => print::outcome(rt, operate(function, body)),
+// An operation on a state of the sections. Head; temp; tail; usable; and two numbers, whether it takes them or not.
+fn operate<F: FnOnce(Sections, u32, u32) -> Outcome>(
+    rt: &impl Print,
+    mut fields: Fields<'_>,
+    operation: F,
+) -> Result<(), Fault>
+    requires { F.IsAlwaysCallable operation }
+{
+    let sections = fields.sections()?;
+    let first = fields.number()?;
+    let second = fields.number()?;
+    fields.end()?;
+    Ok(print::outcome(rt, operation(sections, first, second))?)
+}
+
+// Calls the function of that name.
+pub(crate) fn call(rt: &impl Print, name: &[u8], fields: Fields<'_>) -> Result<(), Fault> {
+    match name {
+        b"plan" => plan_requests(rt, fields),
+        b"inspect" => inspect(rt, fields),
+        b"run" => run_script(rt, fields),
+        b"from_uses" => from_uses(rt, fields),
+        b"read" => read_plan(rt, fields),
+        b"write" => write_plan(rt, fields),
+        b"reply" => reply_to(rt, fields),
+        b"byte_size" => byte_size(rt, fields),
+        b"from_shapes" => from_shapes(rt, fields),
+        b"open" => open(rt, fields),
+        b"allocate_persistent" => operate(rt, fields, Sections::allocate_persistent),
+        b"allocate_temp" => operate(rt, fields, Sections::allocate_temp),
+        b"reset_temp" => operate(rt, fields, |sections, _, _| sections.reset_temp()),
+        b"set_head" => operate(rt, fields, |sections, length, _| sections.set_head(length)),
+        _ => Err(Fault::NotVector),
     }
 }

@@ -2,65 +2,44 @@
 // numbers. Each line's answer goes to standard output, so that a vector is a line here and a line there, and no expected value stands in the program.
 #![tactic(auto)]
 
-ghost use Rattle.std.specs.Io.{ReadsAtMost};
-
+use fault::Fault;
+use read::Fields;
 use std::io;
 use std::io::Read;
 
 mod calls;
-mod functions;
+mod fault;
 mod print;
 mod read;
 mod text;
 
-// A vector's line of output. Headings and empty lines have none. The label is all of the line where there is no colon.
-fn run_line(rt: &impl Print, line: &[u8]) -> io::Result<()> {
-    if (line.len() == 0) | text::starts(line, b'#') {
-        return Ok(());
-    }
-    print::text(rt, text::part(line, 0, b':'))?;
-    print::byte(rt, b':')?;
-    calls::call(rt, functions::of(line), text::part(line, 1, b':'))?;
-    print::byte(rt, b'\n')
-}
-
-fn run_lines(rt: &impl Print, text: &[u8]) -> io::Result<()> {
-    let last = text::last(text, b'\n');
-    let mut line = 0;
-    while line <= last {
-        run_line(rt, text::part(text, line, b'\n'))?;
-        line += 1;
-    }
-    Ok(())
-}
-
 // More bytes than any input may have, so that a longer one is seen to be longer.
 const INPUT_BYTES: usize = 65536;
 
-fn no_input() -> [u8; INPUT_BYTES] {
-    [0; INPUT_BYTES]
-}
-
-// Reads until the buffer is full or the input ends, and returns how many bytes stand at the buffer's start.
-fn read_full(reader: &mut impl Read, buffer: &mut [u8]) -> io::Result<usize>
-    ensures { ReadsAtMost result buffer.new }
-{
-    let mut done = 0;
-    while done < buffer.len() {
-        let count = reader.read(&mut buffer[done..])?;
-        if count == 0 {
-            break;
-        }
-        done += count;
+// A vector's line of output. Headings and empty lines have none. The label is all of the line where there is no colon, and starts with the function's name.
+fn run_line(rt: &(impl Print + AllocGlobal), line: &[u8]) -> io::Result<()> {
+    if matches!(line, [] | [b'#', ..]) {
+        return Ok(());
     }
-    Ok(done)
+    let (label, body) = text::cut(line, b':');
+    let (name, _) = text::cut(label, b' ');
+    rt.write_all(label)?;
+    rt.print(":")?;
+    match calls::call(rt, name, Fields::new(rt.alloc(), body)) {
+        Ok(()) => rt.println(""),
+        Err(Fault::NotVector) => rt.println(" not a vector"),
+        Err(Fault::System(error)) => Err(error),
+    }
 }
 
 fn main(rt: HostRuntime) -> io::Result<()> {
-    let mut buffer = no_input();
-    let length = read_full(&mut rt.stdin(), &mut buffer)?;
-    if length == buffer.len() {
-        return print::text(&rt, b": input too long\n");
+    let mut input = Vec::new(rt.alloc());
+    rt.stdin().take(INPUT_BYTES as u64).read_to_end(&mut input)?;
+    if input.len() == INPUT_BYTES {
+        return rt.println(": input too long");
     }
-    run_lines(&rt, &buffer[..length])
+    for line in input.as_slice().split(|byte| *byte == b'\n') {
+        run_line(&rt, line)?;
+    }
+    Ok(())
 }

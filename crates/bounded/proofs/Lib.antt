@@ -1,8 +1,10 @@
 pub mod Boolean
 pub mod Causes
+pub mod Chains
 pub mod Count
 pub mod Entries
 pub mod First
+pub mod Found
 pub mod Front
 pub mod Greatest
 pub mod InOrder

@@ -4,7 +4,7 @@
 -- A reader believes these by `first_is` and `least_is`, which mention no search. A loop uses `Scan p s n i`: the scan from s has come to i and
 -- found nothing; `scan` starts it, `pass` is one more turn, `hit` leaves it early, `out` runs it to the end.
 use Prim.Native.Nat.{ℕ, zero, suc, ◌+◌, ◌-◌, ◌<◌, ◌≤◌}
-use Rattle.std.specs.Prelude.{Bool, true, false, ◌≡◌, ltb}
+use Rattle.std.specs.Prelude.{Bool, true, false, Option, Some, None, ◌≡◌, ltb}
 
 -- The search from i over the next k indices.
 unfoldable pub first_from : (ℕ → Bool) → ℕ → ℕ → ℕ
@@ -34,3 +34,11 @@ pub record IsLeast (p : ℕ → Bool) (r : ℕ) : Type 0 where
 -- The scan from s has come to i and found nothing.
 pub record Scan (p : ℕ → Bool) (s n i : ℕ) : Type 0 where
   pub here : first_in p i n ≡ first_in p s n
+
+-- What a search gives as an option: the index, or none where it ran to its end. A caller learns of either case by `found_some` and `found_none`.
+unfoldable pub found_of : ℕ → ℕ → Option ℕ
+found_of r n = elim (ltb r n) [ true ↦ Some r | false ↦ None ]
+
+-- The first index from s on and below n at which the test holds, or none.
+abbrev pub found_in : (ℕ → Bool) → ℕ → ℕ → Option ℕ
+found_in p s n = found_of (first_in p s n) n

@@ -13,48 +13,41 @@ use units::Offset;
 pub fn on_grid(grid: u32, offset: Offset) -> bool
     ensures { result ≡ on_grid grid offset.0 }
 {
-    if grid == 0 {
-        return offset.0 == 0;
-    }
-    offset.0 % grid as u64 == 0
+    offset.0.is_multiple_of(grid as u64)
 }
 
 // The row's buffer at an offset.
 pub fn buffer_at(grid: u32, request: Request, offset: Offset) -> Buffer
     ensures { result ≡ buffer grid request offset }
 {
-    let length = alignment::round_up(grid, request.size);
-    let first = request.first;
-    let last = request.last;
     Buffer {
-        first,
-        last,
+        first: request.first,
+        last: request.last,
         offset,
-        length,
+        length: alignment::round_up(grid, request.size),
     }
 }
 
 // Both ends of a life count.
+#[tactic(auto, unfolding(request_table::specs::Buffers::live_together))]
 pub fn live_together(a: Buffer, b: Buffer) -> bool
     ensures { result ≡ live_together a b }
 {
-    (a.first.0 <= b.last.0) & (b.first.0 <= a.last.0)
+    a.first <= b.last && b.first <= a.last
 }
 
 // Whether a ends after b starts. It subtracts where there is something to subtract, so that no end is ever worked out and none can overflow.
 fn ends_after(a: Buffer, b: Buffer) -> bool
     ensures { result ≡ ends_after a b }
 {
-    if b.offset.0 < a.offset.0 {
-        return true;
-    }
-    b.offset.0 - a.offset.0 < a.length
+    b.offset < a.offset || b.offset.0 - a.offset.0 < a.length
 }
 
 // Two buffers collide: both are nonempty, they live together and share a byte.
+#[tactic(auto, unfolding(request_table::specs::Buffers::collides, request_table::specs::Buffers::share_byte))]
 pub fn collide(a: Buffer, b: Buffer) -> bool
     ensures { result ≡ collides a b }
 {
-    let nonempty = (0 < a.length) & (0 < b.length);
-    nonempty & (live_together(a, b) & (ends_after(a, b) & ends_after(b, a)))
+    let nonempty = 0 < a.length && 0 < b.length;
+    nonempty && live_together(a, b) && ends_after(a, b) && ends_after(b, a)
 }

@@ -1,4 +1,3 @@
-pub mod Below
 pub mod Decimals
 pub mod DigitByDigit
 pub mod SpelledCases

@@ -1,12 +1,11 @@
 -- Numbers that a text spells, as a list of its ASCII codes: a natural number by digits alone, a signed one with a minus sign before them or none. Zeros may
--- stand in front. All is total: a text that spells no number reads as one above every limit, and a signed number says itself whether the text spelled it.
-use Rattle.std.specs.Prelude.{ℕ, zero, suc, ◌+◌, ◌-◌, ◌*◌, min, Bool, true, false, ◌&&◌, List, [], ◌∷◌, drop, ℤ, pos, negsuc, ◌==◌, nat_le, slice_index}
-use Rattle.decimal_text.specs.declared.Word.{Word}
+-- stand in front. All is total: a text spells a number or none.
+use Rattle.std.specs.Prelude.{ℕ, zero, suc, ◌+◌, ◌-◌, ◌*◌, Bool, true, false, ◌&&◌, List, [], ◌∷◌, drop, ℤ, pos, negsuc, ◌==◌, nat_le, nat_lt, slice_index, Option, Some, None}
+use Rattle.std.specs.Option.{option_and_then}
 
--- What is given for a text that spells no number of 64 bits. It is above every limit, so that a test of a limit refuses it too. (The greatest number of
--- 64 bits is therefore not told from none.)
-abbrev pub no_number : ℕ
-no_number = 18446744073709551615
+-- Numbers are read below this one, the greatest of 64 bits, which is read as none itself.
+abbrev pub number_limit : ℕ
+number_limit = 18446744073709551615
 
 -- Whether a code is a digit's, `0` to `9`.
 unfoldable pub is_digit : ℕ → Bool
@@ -26,28 +25,29 @@ value_after value (code ∷ text) = value_after (10 * value + (code - 48)) text
 unfoldable pub value_of : List ℕ → ℕ
 value_of text = value_after 0 text
 
+-- A number that was read, where it is below the limit.
+unfoldable pub held : ℕ → Option ℕ
+held n = elim (nat_lt n number_limit) [ true ↦ Some n | false ↦ None ]
+
 -- The number that a text spells: one digit or more, and nothing else.
-unfoldable pub natural_in : List ℕ → ℕ
-natural_in [] = no_number
-natural_in (code ∷ text) = elim (all_digits (code ∷ text)) [ true ↦ min (value_of (code ∷ text)) no_number | false ↦ no_number ]
+unfoldable pub natural_in : List ℕ → Option ℕ
+natural_in [] = None
+natural_in (code ∷ text) = elim (all_digits (code ∷ text)) [ true ↦ held (value_of (code ∷ text)) | false ↦ None ]
 
 -- So many below 0.
 unfoldable pub below : ℕ → ℤ
 below zero = pos 0
 below (suc n) = negsuc n
 
--- What is given for a text that spells no signed number of 32 bits.
-abbrev pub no_word : Word
-no_word = record { value = pos 0; good = false }
-
 -- The signed number of so many above 0, where 32 bits hold it.
-unfoldable pub above_zero : ℕ → Word
-above_zero n = elim (nat_le n 2147483647) [ true ↦ record { value = pos n; good = true } | false ↦ no_word ]
+unfoldable pub above_zero : ℕ → Option ℤ
+above_zero n = elim (nat_le n 2147483647) [ true ↦ Some (pos n) | false ↦ None ]
 
 -- The signed number of so many below 0, where 32 bits hold it.
-unfoldable pub below_zero : ℕ → Word
-below_zero n = elim (nat_le n 2147483648) [ true ↦ record { value = below n; good = true } | false ↦ no_word ]
+unfoldable pub below_zero : ℕ → Option ℤ
+below_zero n = elim (nat_le n 2147483648) [ true ↦ Some (below n) | false ↦ None ]
 
--- A signed number of 32 bits, with a minus sign before it or none; not good where the text spells none.
-unfoldable pub signed_in : List ℕ → Word
-signed_in text = elim (slice_index text 0 == 45) [ true ↦ below_zero (natural_in (drop 1 text)) | false ↦ above_zero (natural_in text) ]
+-- The signed number of 32 bits that a text spells, with a minus sign before it or none.
+unfoldable pub signed_in : List ℕ → Option ℤ
+signed_in text =
+    elim (slice_index text 0 == 45) [ true ↦ option_and_then below_zero (natural_in (drop 1 text)) | false ↦ option_and_then above_zero (natural_in text) ]

@@ -1,103 +1,69 @@
-// Numbers in decimal, read from text. Every text is allowed: one that spells no number gives what stands for none, so that no caller has a text to
-// look at before it reads.
+// Numbers in decimal, read from text. Every text is allowed: one that spells no number gives none, so that no caller has a text to look at before it
+// reads.
 #![tactic(auto)]
 
 ghost use Rattle.std.specs.Prelude.{◌≡◌};
-ghost use Rattle.decimal_text.specs.Spelled.{natural_in, no_word, above_zero, below_zero, signed_in};
+ghost use Rattle.decimal_text.specs.Spelled.{natural_in, above_zero, below_zero, signed_in};
 ghost use Rattle.decimal_text.specs.DigitByDigit.{with_digit};
 
-// What stands for a number that cannot be read: it is above every limit, so that a test of a limit refuses it too.
-pub const NO_NUMBER: u64 = 18446744073709551615;
-
-// A signed number of 32 bits, and whether the text spelled one.
-#[derive(Clone, Copy)]
-pub struct Word {
-    pub value: i32,
-    pub good: bool,
-}
-
-// The number with one digit more. Past the range it does not grow, so that no sum wraps.
-fn with_digit(number: u64, code: u8) -> u64
+// The number with one digit more. None is made with a code that is no digit's, nor one that is the greatest of 64 bits or past it.
+#[tactic(auto, using(crate::proofs::DigitByDigit::digit_none), unfolding(crate::specs::DigitByDigit::with_digit, crate::specs::Spelled::held, crate::specs::Spelled::is_digit))]
+fn with_digit(number: u64, code: u8) -> Option<u64>
     ensures { result ≡ with_digit number code }
 {
-    let digit = std::num::wrapping_sub_u8(code, b'0') as u64;
+    let digit = code.wrapping_sub(b'0');
     if 9 < digit {
-        return NO_NUMBER;
-    }
-    if (NO_NUMBER - digit) / 10 < number {
-        return NO_NUMBER;
-    }
-    number * 10 + digit
-}
-
-// The number that the text spells by digits alone. Any other text, the empty one too, gives what stands for none.
-pub fn natural(text: &[u8]) -> u64
-    ensures { result ≡ natural_in text.now }
-{
-    if text.len() == 0 {
-        return NO_NUMBER;
-    }
-    let mut number = 0;
-    let mut at = 0;
-    while at < text.len() {
-        number = with_digit(number, text[at]);
-        at += 1;
+        return None;
     }
     number
+        .checked_mul(10)?
+        .checked_add(digit as u64)
+        .filter(|more| *more < u64::MAX)
 }
 
-// What stands for a signed number that cannot be read.
-fn no_word() -> Word
-    ensures { result ≡ no_word }
+// The number that the text spells by digits alone. Any other text, the empty one too, spells none; nor does one of the greatest number of 64 bits or of
+// a number past it.
+#[tactic(auto, using(crate::proofs::DigitByDigit::empty_spells_none))]
+pub fn natural(text: &[u8]) -> Option<u64>
+    ensures { result ≡ natural_in text.now }
 {
-    Word {
-        value: 0,
-        good: false,
+    if text.is_empty() {
+        return None;
     }
+    let mut number = 0;
+    for code in text {
+        number = with_digit(number, *code)?;
+    }
+    Some(number)
 }
 
-// The number of so many above 0.
-fn above_zero(magnitude: u64) -> Word
+// The number of so many above 0, where 32 bits hold it.
+#[tactic(auto, unfolding(crate::specs::Spelled::above_zero))]
+fn above_zero(magnitude: u64) -> Option<i32>
     ensures { result ≡ above_zero magnitude }
 {
-    if 2147483647 < magnitude {
-        return no_word();
-    }
-    Word {
-        value: magnitude as i32,
-        good: true,
-    }
+    i32::try_from(magnitude).ok()
 }
 
-// The number of so many below 0. It is made from -1 down, since the least has no counterpart above 0.
-fn below_zero(magnitude: u64) -> Word
+// The number of so many below 0, where 32 bits hold it. It is made from -1 down, since the least has no counterpart above 0.
+#[tactic(auto, unfolding(crate::specs::Spelled::below_zero, crate::specs::Spelled::below))]
+fn below_zero(magnitude: u64) -> Option<i32>
     ensures { result ≡ below_zero magnitude }
 {
-    if 2147483648 < magnitude {
-        return no_word();
-    }
     if magnitude == 0 {
-        return Word {
-            value: 0,
-            good: true,
-        };
+        return Some(0);
     }
-    let further = (magnitude - 1) as i32;
-    Word {
-        value: -1 - further,
-        good: true,
-    }
+    i32::try_from(magnitude - 1)
+        .ok()
+        .map(|further| -1 - further)
 }
 
 // The signed number that the text spells, with a minus sign before it or none.
-pub fn signed(text: &[u8]) -> Word
+pub fn signed(text: &[u8]) -> Option<i32>
     ensures { result ≡ signed_in text.now }
 {
-    if text.len() == 0 {
-        return no_word();
+    match text.strip_prefix(b"-") {
+        Some(digits) => natural(digits).and_then(below_zero),
+        None => natural(text).and_then(above_zero),
     }
-    if text[0] == b'-' {
-        return below_zero(natural(&text[1..]));
-    }
-    above_zero(natural(text))
 }

@@ -5,47 +5,44 @@ ghost use Rattle.std.specs.Prelude.{◌≡◌};
 ghost use Rattle.greedy_rule.specs.Plan.{fixed_collide};
 ghost use Rattle.fixed_rows.specs.FixedPair.{fixed_pair};
 
+use request_rows::Table;
 use units::Row;
 
-// The pair that a search found, if there is one.
-#[derive(Clone, Copy)]
-pub enum Pair {
-    Found(Row, Row),
-    Nothing,
-}
-
 // Whether both rows are fixed and collide, each at its own offset.
-fn fixed_collide(grid: u32, table: &[i32], a: Row, b: Row) -> bool
-    ensures { result ≡ fixed_collide grid table.now a.0 b.0 }
+#[tactic(auto, unfolding(greedy_rule::specs::Plan::fixed_collide))]
+fn fixed_collide(table: &Table, a: Row, b: Row) -> bool
+    ensures { result ≡ fixed_collide table.now.grid table.now.words.now a.0 b.0 }
 {
-    let first = request_rows::request_at(table, a);
-    let second = request_rows::request_at(table, b);
-    let first_offset = first.offset;
-    let second_offset = second.offset;
-    let met = buffers::collide(
-        buffers::buffer_at(grid, first, first_offset),
-        buffers::buffer_at(grid, second, second_offset),
-    );
-    (first.fixed & second.fixed) & met
+    let first = table.request(a);
+    let second = table.request(b);
+    match (first.offset, second.offset) {
+        (Some(first_offset), Some(second_offset)) => buffers::collide(
+            buffers::buffer_at(table.grid, first, first_offset),
+            buffers::buffer_at(table.grid, second, second_offset),
+        ),
+        _ => false,
+    }
 }
 
-// The first pair of fixed rows that collide, the least first row and then the least second: both scans end at once, at that pair.
-pub fn first_pair(grid: u32, table: &[i32]) -> Pair
-    ensures { result ≡ fixed_pair grid table.now }
+// The first pair of fixed rows that collide, the least first row and then the least second: both scans end at once, at that pair:
+// they are left from inside by a label, as document 01 asks.
+pub fn first_pair(table: &Table) -> Option<(Row, Row)>
+    ensures { result ≡ fixed_pair table.now.grid table.now.words.now }
 {
-    let n = table.len() / request_table::ROW_WORDS;
-    let mut pair = Pair::Nothing;
-    let mut a = Row(0);
-    'scan: while a.0 < n {
-        let mut b = Row(a.0 + 1);
-        while b.0 < n {
-            if fixed_collide(grid, table, a, b) {
-                pair = Pair::Found(a, b);
+    let n = table.rows();
+    let mut pair = None;
+    'scan: for a in 0..n {
+        // Most rows are not fixed, and are the first of no pair.
+        let fixed = table.request(Row(a)).offset.is_some();
+        if !fixed {
+            continue;
+        }
+        for b in a + 1..n {
+            if fixed_collide(table, Row(a), Row(b)) {
+                pair = Some((Row(a), Row(b)));
                 break 'scan;
             }
-            b = Row(b.0 + 1);
         }
-        a = Row(a.0 + 1);
     }
     pair
 }

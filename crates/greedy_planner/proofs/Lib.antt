@@ -1,7 +1,6 @@
-pub mod Distance
 pub mod Ordering
 pub mod Insertion
+pub mod Walking
 pub mod Shifting
 pub mod Filling
-pub mod RowBuffer
 pub mod Tables

@@ -4,7 +4,7 @@ use Rattle.std.specs.Prelude.{Bool, true, false, List, ◌⊎◌, ◌≡◌, ℤ
 use Rattle.std.proofs.Common.{inl, inr, sym, ◌∙◌, ap, arith, ltb-true}
 use Rattle.std.proofs.Math.Path.{refl}
 use Rattle.std.proofs.Math.Nat.{zero-mod}
-use Rattle.request_table.proofs.GoodRows.{good_on_grid}
+use Rattle.request_table.proofs.GoodRows.{fixed_on_grid}
 use Rattle.alignment.proofs.Rounding.{up_from_multiple}
 use Rattle.request_table.specs.Table.{rows, request, fixed, good}
 use Rattle.placement.proofs.LowestFree.{EndsAt, lowest_is_an_end}
@@ -36,7 +36,7 @@ module _ (g : ℕ) (t : List ℤ) (goods : (r : ℕ) → r < rows t → good g (
           ∙ up_from_multiple g (request t e.row).size _ (ap (λ (i : ℕ). i % g) s ∙ rec e.row e.within (omega arith))
 
       go : Lower → (x : Bool) → fixed t r ≡ x → greedy_plan g t r % g ≡ 0
-      go rec true f = ap (λ (i : ℕ). i % g) (fixed_rows_stay g t r l f) ∙ good_on_grid g (request t r) (goods r l) f
+      go rec true f = ap (λ (i : ℕ). i % g) (fixed_rows_stay g t r l f) ∙ fixed_on_grid g t r (goods r l) f
       go rec false f =
           let took : greedy_plan g t r ≡ lowest g t (stage g t (position g t r)) r = plan_takes g t r l ∙ rw (f, offset_for) in
           ap (λ (i : ℕ). i % g) took ∙ on rec _ (sym took) (lowest_is_an_end g t (stage g t (position g t r)) r)

@@ -3,7 +3,7 @@ use Rattle.std.specs.Prelude.{ℕ, ◌<◌, ◌≤◌, Bool, true, false, List, 
 use Rattle.std.proofs.Common.{inl, inr, arith}
 use Rattle.bounded.proofs.Boolean.{lt_or_le}
 use Rattle.request_table.specs.Buffers.{buffer_at}
-use Rattle.request_table.proofs.GoodRows.{good_offset_lem}
+use Rattle.request_table.proofs.GoodRows.{fixed_small}
 use Rattle.request_table.specs.Limits.{greatest_space}
 use Rattle.request_table.proofs.Needs.{need_bounds}
 use Rattle.alignment.proofs.Rounding.{up_holds}
@@ -21,5 +21,5 @@ plan_fits g t space room h d r l = go (lt_or_le 0 (buffer_at g t r (greedy_plan 
   where
     go : (0 < (buffer_at g t r (greedy_plan g t r)).length) ⊎ ((buffer_at g t r (greedy_plan g t r)).length ≤ 0) → (b : Bool) → fixed t r ≡ b → greedy_plan g t r ≤ greatest_space
     go (inl n) b e = omega (arith, need_bounds g t (greedy_plan g t) r l n, d.fits, d.checks.allowed)
-    go (inr n) true e = omega (arith, fixed_rows_stay g t r l e, good_offset_lem g (request t r) (d.checks.good_rows r l) e)
+    go (inr n) true e = omega (arith, fixed_rows_stay g t r l e, fixed_small g t r (d.checks.good_rows r l) e)
     go (inr n) false e = omega (arith, empty_at_zero g t r (omega (arith, up_holds g (request t r).size h)) l e)

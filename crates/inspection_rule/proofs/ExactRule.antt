@@ -20,7 +20,7 @@ use Rattle.request_table.specs.Buffers.{occupied, need}
 use Rattle.request_table.proofs.CheckLaws.{checked}
 use Rattle.request_table.specs.Checks.{table_causes, check_of}
 use Rattle.request_table.proofs.Colliding.{apart, not_colliding}
-use Rattle.request_table.proofs.GoodRows.{good_offset_lem}
+use Rattle.request_table.proofs.GoodRows.{fixed_small}
 use Rattle.request_table.specs.Limits.{greatest_space}
 use Rattle.request_table.specs.Needs.{EndsThere}
 use Rattle.request_table.proofs.Needs.{need_bounds, need_is_one}
@@ -141,7 +141,7 @@ module _ (g : ℕ) (t : List ℤ) (space : ℕ) (o : List ℤ) where
         table = passed_is_well_formed g t space (length o) p.checks;
         room = p.checks.shaped.roomy;
         allowed = p.checks.allowed;
-        unmoved = λ r l f. unmoved_says g t o r (p.still r l) (good_offset_lem g (request t r) (p.checks.good_rows r l) (fixed_of t r f)) f;
+        unmoved = λ r l f. unmoved_says g t o r (p.still r l) (fixed_small g t r (p.checks.good_rows r l) (fixed_of t r f)) f;
         aligned = λ r l. on_grid_says g o r (p.even r l);
         fits = fits_says g t o space h p.within_space;
         apart_rows = λ a b l m. not_colliding _ _ (p.clear a b l m);

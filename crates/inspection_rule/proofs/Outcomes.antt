@@ -15,7 +15,7 @@ use Rattle.bounded.proofs.Pair.{no_pair}
 use Rattle.words.specs.Words.{word_at}
 use Rattle.request_table.specs.CheckLaws.{Checked}
 use Rattle.request_table.proofs.Colliding.{collides_says, collides_of}
-use Rattle.request_table.proofs.GoodRows.{good_offset_lem}
+use Rattle.request_table.proofs.GoodRows.{fixed_small}
 use Rattle.request_table.specs.Limits.{greatest_space}
 use Rattle.request_table.specs.Table.{rows, request, fixed, fixed_offset}
 use Rattle.inspection_rule.specs.ExactRule.{Aligned, Acceptable, Passed}
@@ -64,7 +64,7 @@ module _ (g : ℕ) (t : List ℤ) (space : ℕ) (o : List ℤ) where
 
   module _ (h : 0 < g) (c : Checked g t space (length o)) where
     own_bound : (r : ℕ) → r < rows t → fixed t r ≡ true → fixed_offset t r ≤ greatest_space
-    own_bound r l f = good_offset_lem g (request t r) (c.good_rows r l) f
+    own_bound r l f = fixed_small g t r (c.good_rows r l) f
 
     -- Past the checks 1 to 5 the inspector answers so.
     pub inspect_outcome : Outcome

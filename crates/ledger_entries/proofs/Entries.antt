@@ -1,30 +1,31 @@
--- What the code finds in an entry of the ledger, over plain values.
-use Prim.Native.Nat.{ℕ, ◌+◌, ◌<◌, ◌≤◌}
-use mathlib.Core.Bool.{true, false}
-use mathlib.Core.List.{[], sum}
-use mathlib.Core.Path.{◌≡◌, refl, ◌∙◌, ap}
+-- What the code finds over the entries of a ledger, over plain values.
+use Rattle.std.proofs.Common.{ℕ, ◌+◌, ◌<◌, ◌≤◌, ◌≡◌, Bool, true, false, List, [], ◌∷◌, map, length, sum_by, refl, sym, arith}
+use mathlib.Core.List.{sum}
+use Rattle.std.proofs.lemmas.List.Sums.{sum_by-cons}
+use Rattle.std.specs.Bool.{MatchBool}
+use Rattle.std.specs.List.{HoldsAt, AllWithin}
+use Rattle.bounded.proofs.First.{some_found, none_found}
+use Rattle.bounded.specs.First.{holds_below}
 use borrow.Author.Tests.{lt-ltb, le-ltb}
-use lib.ListN.{length, take}
-use Rattle.bounded.proofs.Sums.{sum_more}
-use Rattle.recording_rule.specs.Ledger.{nothing_recorded, of_kind, used_bytes, total_used, passes_used}
+use Rattle.recording_rule.specs.Ledger.{kind_count, nothing_recorded, used_bytes, total_used, passes_used}
 use Rattle.recording_rule.specs.declared.Ledger.{Ledger}
 use Rattle.recording_rule.specs.declared.RecordedAllocation.{RecordedAllocation}
 
-module _ (l : Ledger) (kind : ℕ) (r : RecordedAllocation) (e : r ≡ of_kind l kind) where
-  -- Its requested bytes pass its used bytes,
-  pub passes : r.used < r.requested → passes_used l kind ≡ true
-  passes h = rw (← e) (lt-ltb _ _ h)
+-- Some entry's requested bytes pass its used bytes, or no entry's do.
+pub some_pass : (l : Ledger) → length l.kinds ≡ kind_count → (b : Bool)
+    → MatchBool b
+    ((k : ℕ) × (k < length l.kinds) × HoldsAt (λ (r : RecordedAllocation). r.used < r.requested) l.kinds k)
+    (AllWithin (λ (r : RecordedAllocation). r.requested ≤ r.used) l.kinds 0 (length l.kinds))
+    → b ≡ holds_below (passes_used l) kind_count
+some_pass l six true h = sym (some_found (passes_used l) kind_count h.0 (rw six at h.1) (lt-ltb _ _ (h.2 nothing_recorded)))
+some_pass l six false h = sym (none_found (passes_used l) kind_count (λ k m. le-ltb _ _ (h k nothing_recorded (omega arith) (rw six m))))
 
-  -- or they do not.
-  pub does_not_pass : r.requested ≤ r.used → passes_used l kind ≡ false
-  does_not_pass h = rw (← e) (le-ltb _ _ h)
+-- The used bytes are added up from the first entry on, which comes to the same.
+added : (kinds : List RecordedAllocation) → sum_by used_bytes kinds ≡ sum ◌+◌ 0 (map used_bytes kinds)
+unfolding sum
+added [] = refl
+added (r ∷ rs) = omega (arith, sum_by-cons used_bytes r rs, added rs)
 
-  -- Its used bytes are added.
-  pub added : kind < length l.kinds → total_used (take kind l.kinds) + r.used ≡ total_used (take (kind + 1) l.kinds)
-  unfolding total_used
-  added h = ap (λ (x : RecordedAllocation). total_used (take kind l.kinds) + x.used) e ∙ sum_more used_bytes nothing_recorded l.kinds kind h
-
--- Nothing is added up yet.
-pub none_added : 0 ≡ total_used []
-unfolding total_used sum
-none_added = refl
+pub added_up : (kinds : List RecordedAllocation) → sum_by used_bytes kinds ≡ total_used kinds
+unfolding total_used
+added_up kinds = added kinds

@@ -4,27 +4,16 @@
 
 ghost use Rattle.std.specs.Prelude.{◌≡◌};
 ghost use Rattle.bounded.specs.First.{holds_below};
-ghost use Rattle.recording_rule.specs.Ledger.{kind_count, nothing_recorded, empty_ledger, of_kind, total_used, passes_used, balanced as balanced_against};
+ghost use Rattle.recording_rule.specs.Ledger.{kind_count, empty_ledger, of_kind, total_used, passes_used, balanced as balanced_against};
 
 use recording_rule::{Ledger, RecordedAllocation};
-
-// Nothing recorded.
-fn nothing_recorded() -> RecordedAllocation
-    ensures { result ≡ nothing_recorded }
-{
-    RecordedAllocation {
-        requested: 0,
-        used: 0,
-        count: 0,
-    }
-}
 
 // A ledger of zeros, to begin with.
 pub fn empty_ledger() -> Ledger
     ensures { result ≡ empty_ledger }
 {
     Ledger {
-        kinds: [nothing_recorded(); 6],
+        kinds: [RecordedAllocation::default(); 6],
     }
 }
 
@@ -32,46 +21,34 @@ pub fn empty_ledger() -> Ledger
 pub fn of_kind(ledger: Ledger, kind: u32) -> RecordedAllocation
     ensures { result ≡ of_kind ledger kind }
 {
-    if Ledger::KINDS <= kind {
-        return nothing_recorded();
-    }
-    let at = kind as usize;
-    ledger.kinds[at]
+    ledger.kinds.get(kind as usize).copied().unwrap_or_default()
 }
 
 // The used bytes of all kinds. Six numbers of 32 bits need more than 32.
 fn total_used(ledger: Ledger) -> u64
     ensures { result ≡ total_used ledger.kinds }
 {
-    let mut total = 0;
-    let mut kind = 0;
-    while kind < Ledger::KINDS {
-        let recorded = of_kind(ledger, kind);
-        total += recorded.used as u64;
-        kind += 1;
-    }
-    total
+    ledger
+        .kinds
+        .iter()
+        .map(|recorded| recorded.used as u64)
+        .sum()
 }
 
 // Whether some kind's requested bytes pass its used bytes.
 fn some_passes(ledger: Ledger) -> bool
     ensures { result ≡ holds_below (passes_used ledger) kind_count }
 {
-    let mut kind = 0;
-    while kind < Ledger::KINDS {
-        let recorded = of_kind(ledger, kind);
-        if recorded.used < recorded.requested {
-            return true;
-        }
-        kind += 1;
-    }
-    false
+    ledger
+        .kinds
+        .iter()
+        .any(|recorded| recorded.used < recorded.requested)
 }
 
 // Whether the ledger agrees with itself and with the bytes that the tail has taken.
+#[tactic(auto, unfolding(recording_rule::specs::Ledger::balanced))]
 pub fn is_balanced(ledger: Ledger, taken: u32) -> bool
     ensures { result ≡ balanced_against ledger taken }
 {
-    let passes = some_passes(ledger);
-    (total_used(ledger) == taken as u64) & !passes
+    (total_used(ledger) == taken as u64) & !some_passes(ledger)
 }

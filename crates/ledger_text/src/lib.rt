@@ -8,7 +8,6 @@ ghost use Rattle.text_pieces.specs.Put.{Put};
 ghost use Rattle.text_pieces.specs.Replied.{reply_with, left_with};
 
 use recording_rule::Ledger;
-pub use text_pieces::Reply;
 use text_pieces::{put_number, put_text};
 
 // Bytes enough for any ledger's text: a line has a code of one digit, three numbers of 32 bits with a blank before each, and its line feed.
@@ -34,21 +33,20 @@ fn put_ledger(text: &mut [u8], ledger: Ledger) -> usize
     ensures { Put text.old text.new 0 result (ledger_text ledger) }
 {
     let mut next = 0;
-    let mut code = 0;
-    while code < Ledger::KINDS {
+    for code in 0..Ledger::KINDS {
         next = put_line(text, next, ledger, code);
-        code += 1;
     }
     next
 }
 
-// The ledger's text stands in the first bytes of `text`, and the rest stays. A `text` of fewer bytes than the longest has is left as it was.
-pub fn write_ledger(ledger: Ledger, text: &mut [u8]) -> Reply
+// The ledger's text stands in the first bytes of `text`, so many as are told, and the rest stays. A `text` of fewer bytes than the longest has is left as it
+// was, and none is told.
+pub fn write_ledger(ledger: Ledger, text: &mut [u8]) -> Option<usize>
     ensures reply { result ≡ reply_with greatest_ledger_text (ledger_text ledger) (length text.old) }
     ensures text { text.new ≡ left_with greatest_ledger_text (ledger_text ledger) text.old }
 {
     if text.len() < GREATEST_LEDGER_TEXT {
-        return Reply::NoRoom;
+        return None;
     }
-    Reply::Text(put_ledger(text, ledger))
+    Some(put_ledger(text, ledger))
 }

@@ -5,95 +5,73 @@
 
 mod read;
 
-ghost use Rattle.std.specs.Prelude.{◌≡◌, length};
-
 use arena_sections::Sections;
-use ledger_text::Reply;
-use read::VECTOR_NUMBERS;
 use recording_rule::{Ledger, Recording};
 use std::io;
+use std::io::Read;
+
+// A vector has this many numbers.
+const VECTOR_NUMBERS: usize = 26;
 
 // The most room that a vector may give.
 const GREATEST_ROOM: usize = 300;
 
-fn print(rt: &impl Print, number: u64, after: &[u8]) -> io::Result<()> {
-    rt.print(number)?;
-    rt.write_all(after)
-}
+// The most bytes of input that are read.
+const INPUT_BYTES: u64 = 65536;
 
-// Bytes to lend, of which none is a digit.
-fn dots() -> [u8; GREATEST_ROOM]
-    ensures { length result ≡ 300 }
-{
-    [b'.'; GREATEST_ROOM]
-}
-
-// The answer and the sections, in a line.
+// The answer and the sections, in a line. The libraries print nothing, so that their types have no `Display`.
 fn print_outcome(rt: &impl Print, recording: Recording) -> io::Result<()> {
     let answer = recording.answer;
     let sections = recording.sections;
-    print(rt, answer.number as u64, b" ")?;
-    print(rt, answer.a as u64, b" ")?;
-    print(rt, answer.b as u64, b" ")?;
-    print(rt, answer.need, b"; sections ")?;
-    print(rt, sections.head as u64, b" ")?;
-    print(rt, sections.temp as u64, b" ")?;
-    print(rt, sections.tail as u64, b" ")?;
-    print(rt, sections.usable as u64, b"\n")
+    println!(rt;
+        "{} {} {} {}; sections {} {} {} {}",
+        answer.number,
+        answer.a,
+        answer.b,
+        answer.need,
+        sections.head,
+        sections.temp,
+        sections.tail,
+        sections.usable
+    )
 }
 
 // The ledger's text in lent bytes, all of which are written, so that those behind the text are seen to stay.
 fn print_ledger(rt: &impl Print, ledger: Ledger, text: &mut [u8]) -> io::Result<()> {
-    if let Reply::NoRoom = ledger_text::write_ledger(ledger, text) {
+    if ledger_text::write_ledger(ledger, text).is_none() {
         rt.write_all(b"no room\n")?;
     }
     rt.write_all(text)?;
     rt.write_all(b"\n")
 }
 
-fn run(rt: &impl Print, numbers: [u32; VECTOR_NUMBERS]) -> io::Result<()> {
+fn run(rt: &impl Print, vector: &[u32; VECTOR_NUMBERS]) -> io::Result<()> {
+    let [head, temp, tail, usable, .., kind, size, alignment, room] = *vector;
     let sections = Sections {
-        head: numbers[0],
-        temp: numbers[1],
-        tail: numbers[2],
-        usable: numbers[3],
+        head,
+        temp,
+        tail,
+        usable,
     };
-    let recording = arena_recording::allocate_persistent(
-        sections,
-        read::ledger(numbers),
-        numbers[22],
-        numbers[23],
-        numbers[24],
-    );
+    // cut by its places, since the borrow checker does not cover a pattern that gives the middle of an array a name
+    let ledger = read::ledger(&vector[4..VECTOR_NUMBERS - 4]);
+    let recording = arena_recording::allocate_persistent(sections, ledger, kind, size, alignment);
     print_outcome(rt, recording)?;
-    let mut lent = dots();
-    let room = numbers[25] as usize;
-    if room <= GREATEST_ROOM {
-        print_ledger(rt, recording.ledger, &mut lent[..room])?;
+    // bytes to lend, of which none is a digit
+    let mut lent = arrays::filled::<u8, GREATEST_ROOM>(b'.');
+    match lent.get_mut(..room as usize) {
+        Some(text) => print_ledger(rt, recording.ledger, text),
+        None => Ok(()),
     }
-    Ok(())
-}
-
-fn run_all(rt: &impl Print, text: &[u8]) -> io::Result<()> {
-    let mut numbers = [0u32; VECTOR_NUMBERS];
-    let mut count = 0;
-    let mut at = read::number_start(text, 0);
-    while at < text.len() {
-        let end = read::number_end(text, at);
-        numbers[count] = read::number(text, at, end);
-        at = read::number_start(text, end);
-        count += 1;
-        if count < VECTOR_NUMBERS {
-            continue;
-        }
-        run(rt, numbers)?;
-        count = 0;
-    }
-    Ok(())
 }
 
 fn main(rt: HostRuntime) -> io::Result<()> {
-    let mut buffer = read::no_input();
-    let length = read::read_full(&mut rt.stdin(), &mut buffer)?;
-    run_all(&rt, &buffer[..length])
+    let mut input = Vec::new(rt.alloc());
+    rt.stdin().take(INPUT_BYTES).read_to_end(&mut input)?;
+    let numbers = read::numbers(rt.alloc(), &input)?;
+    let (vectors, _) = numbers.as_chunks::<VECTOR_NUMBERS>();
+    for vector in vectors {
+        run(&rt, vector)?;
+    }
+    Ok(())
 }

@@ -3,22 +3,24 @@
 #![tactic(auto)]
 
 ghost use Rattle.std.specs.Prelude.{◌≡◌};
+ghost use Rattle.answer.specs.Refusals.{verdict_of};
 ghost use Rattle.length_checks.specs.LengthChecks.{lengths_of};
 
-use answer::Answer;
+use answer::{Cause, Refusal};
 
 // Refused: 1 for a table that is not whole rows, 2 for one with too many, 3 for a lent one that is too short, in that order; else done, with no need.
-pub fn check(ragged: bool, many: bool, short: bool) -> Answer
-    ensures { result ≡ lengths_of ragged many short }
+#[tactic(auto, unfolding(crate::specs::LengthChecks::lengths_of))]
+pub fn check(ragged: bool, many: bool, short: bool) -> Result<(), Refusal>
+    ensures { verdict_of result ≡ lengths_of ragged many short }
 {
     if ragged {
-        return Answer::refused(Answer::NOT_WHOLE_ROWS);
+        return Err(Refusal::of(Cause::NotWholeRows));
     }
     if many {
-        return Answer::refused(Answer::TOO_MANY);
+        return Err(Refusal::of(Cause::TooMany));
     }
     if short {
-        return Answer::refused(Answer::TABLE_TOO_SHORT);
+        return Err(Refusal::of(Cause::TableTooShort));
     }
-    Answer::done(0)
+    Ok(())
 }

@@ -3,10 +3,9 @@
 // standard output; for a text that is none, one line goes there that tells what is wrong and where. What the numbers mean is left to the planner.
 #![tactic(auto)]
 
-ghost use Rattle.std.specs.Io.{ReadsAtMost};
-
-use refusal::Reason;
-use sheet::{Progress, Step};
+use refusal::{Fault, Reason};
+use sheet::{Progress, Sheet};
+use std::alloc::Global;
 use std::io;
 use std::io::Read;
 
@@ -18,77 +17,32 @@ mod text;
 // Bytes enough for the longest line of a row, with some for a comment, as often as a sheet may have rows.
 const INPUT_BYTES: usize = 160 * request_table::GREATEST_ROWS;
 
-fn no_input() -> [u8; INPUT_BYTES] {
-    [0; INPUT_BYTES]
-}
-
-// Ends a text after its last line: writes the sheet, or tells what is missing.
-fn finish(
-    rt: &impl Print,
-    progress: Progress,
-    rows: [u8; rows::GREATEST_BYTES],
-    line: usize,
-    whole: bool,
-) -> io::Result<()> {
-    if !whole {
-        return refusal::tell(rt, line, Reason::TooLong);
+// The sheet of the text, or the first fault and the number of its line, the first being line 1. Even the empty text has a line, so that there is one to
+// name. Of a text that is too long the last line is not read: it may be cut, and might pass for another.
+fn make(alloc: Global, input: &[u8]) -> Result<Sheet, (usize, Fault)> {
+    let text = &input[..input.len().min(INPUT_BYTES)];
+    let too_long = text.len() < input.len();
+    let ends_line = |byte: &u8| *byte == b'\n';
+    let last = text.split_inclusive(ends_line).count().max(1);
+    let read = if too_long { last - 1 } else { last };
+    let mut progress = Progress::new(alloc);
+    for (number, line) in (1..=read).zip(text.split_inclusive(ends_line)) {
+        progress.add_line(line).map_err(|fault| (number, fault))?;
     }
-    if !progress.given {
-        return refusal::tell(rt, line, Reason::NoSpace);
+    if too_long {
+        return Err((last, Fault::Refused(Reason::TooLong)));
     }
-    sheet::write(rt, progress, rows)
-}
-
-// Writes the text's sheet, or the first refusal. Even the empty text has a line, so that there is one to name. Of a text that is not whole the last line
-// is not read: it may be cut, and might pass for another.
-fn make(rt: &impl Print, text: &[u8], whole: bool) -> io::Result<()> {
-    let mut rows = [0u8; rows::GREATEST_BYTES];
-    let mut progress = sheet::start();
-    let mut line = 1;
-    let mut start = 0;
-    loop {
-        let end = text::find_end(text, start);
-        if !whole & (text.len() <= end + 1) {
-            break;
-        }
-        match sheet::with_line(progress, text::line(text, start, end), &mut rows) {
-            Step::Taken(next) => progress = next,
-            Step::Refused(reason) => return refusal::tell(rt, line, reason),
-        }
-        if text.len() <= end + 1 {
-            break;
-        }
-        start = end + 1;
-        line += 1;
-    }
-    finish(rt, progress, rows, line, whole)
-}
-
-// Reads until the buffer is full or the input ends, and returns how many bytes stand at the buffer's start.
-fn read_full(reader: &mut impl Read, buffer: &mut [u8]) -> io::Result<usize>
-    ensures { ReadsAtMost result buffer.new }
-{
-    let mut done = 0;
-    while done < buffer.len() {
-        let count = reader.read(&mut buffer[done..])?;
-        if count == 0 {
-            break;
-        }
-        done += count;
-    }
-    Ok(done)
-}
-
-// Whether the input has a byte more.
-fn has_more(reader: &mut impl Read) -> io::Result<bool> {
-    let mut byte = [0u8; 1];
-    Ok(read_full(reader, &mut byte)? == 1)
+    progress.finish().map_err(|fault| (last, fault))
 }
 
 fn main(rt: HostRuntime) -> io::Result<()> {
-    let mut input = rt.stdin();
-    let mut buffer = no_input();
-    let length = read_full(&mut input, &mut buffer)?;
-    let whole = (length < buffer.len()) || !has_more(&mut input)?;
-    make(&rt, &buffer[..length], whole)
+    let mut input = Vec::new(rt.alloc());
+    rt.stdin()
+        .take(INPUT_BYTES as u64 + 1)
+        .read_to_end(&mut input)?;
+    match make(rt.alloc(), input.as_slice()) {
+        Ok(sheet) => sheet.write(&rt),
+        Err((line, Fault::Refused(reason))) => println!(rt; "line {line}: {reason}"),
+        Err((_, Fault::NoMemory(error))) => Err(io::Error::from(error)),
+    }
 }

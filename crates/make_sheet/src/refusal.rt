@@ -1,5 +1,6 @@
 // Why a text gives no sheet.
-use std::io;
+use std::alloc::{AllocError, AllocFailed};
+use std::fmt;
 
 #[derive(Clone, Copy)]
 pub enum Reason {
@@ -13,28 +14,36 @@ pub enum Reason {
     TooLong,
 }
 
-fn print(rt: &impl Print, text: &[u8]) -> io::Result<()> {
-    rt.write_all(text)
-}
-
-fn print_reason(rt: &impl Print, reason: Reason) -> io::Result<()> {
-    match reason {
-        Reason::NotRow => print(rt, b"not four numbers of 32 bits"),
-        Reason::NotShape => print(rt, b"shape is not four to twelve numbers of 32 bits"),
-        Reason::NotSpace => print(rt, b"space is not one number of 32 bits"),
-        Reason::SecondSpace => print(rt, b"a second space"),
-        Reason::BothForms => print(rt, b"sizes and shapes in one text"),
-        Reason::TooManyRows => print(rt, b"more rows than a sheet holds"),
-        Reason::NoSpace => print(rt, b"no space given"),
-        Reason::TooLong => print(rt, b"text too long"),
+impl fmt::Display for Reason {
+    fn fmt<W: fmt::Write>(&self, f: &mut fmt::Formatter<W>) -> fmt::Result {
+        f.write_str(match self {
+            Reason::NotRow => "not four numbers of 32 bits",
+            Reason::NotShape => "shape is not four to twelve numbers of 32 bits",
+            Reason::NotSpace => "space is not one number of 32 bits",
+            Reason::SecondSpace => "a second space",
+            Reason::BothForms => "sizes and shapes in one text",
+            Reason::TooManyRows => "more rows than a sheet holds",
+            Reason::NoSpace => "no space given",
+            Reason::TooLong => "text too long",
+        })
     }
 }
 
-// Tells the line, the first being line 1, and the reason.
-pub(crate) fn tell(rt: &impl Print, line: usize, reason: Reason) -> io::Result<()> {
-    print(rt, b"line ")?;
-    rt.print(line)?;
-    print(rt, b": ")?;
-    print_reason(rt, reason)?;
-    print(rt, b"\n")
+// Why there is no sheet: a line is refused, or no memory is left.
+#[derive(Drop)]
+pub enum Fault {
+    Refused(Reason),
+    NoMemory(AllocError),
+}
+
+impl From<Reason> for Fault {
+    fn from(reason: Reason) -> Fault {
+        Fault::Refused(reason)
+    }
+}
+
+impl<T: Drop> From<AllocFailed<T>> for Fault {
+    fn from(failed: AllocFailed<T>) -> Fault {
+        Fault::NoMemory(AllocError::from(failed))
+    }
 }

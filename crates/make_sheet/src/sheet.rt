@@ -1,135 +1,102 @@
-// A request sheet, made line by line. The rows' bytes are kept apart from what stands before them, which is known only at the end.
-use crate::refusal::Reason;
-use crate::rows::GREATEST_BYTES;
-use crate::{rows, text};
+// A request sheet, made entry by entry.
+ghost use Rattle.std.specs.Prelude.{◌≤◌, vec_len};
+ghost use Rattle.request_table.specs.Limits.{greatest_rows};
+
+use crate::refusal::{Fault, Reason};
+use crate::rows::{Form, Row};
+use crate::text;
+use crate::text::Entry;
+use request_table::GREATEST_ROWS;
+use std::alloc::{AllocError, Global};
 use std::io;
-use units::Row;
 
-// What the lines so far gave, beside the rows' bytes.
-#[derive(Clone, Copy)]
+// What the lines so far gave.
+#[derive(Drop)]
 pub struct Progress {
-    // The row that comes next.
-    pub next: Row,
-    // Whether the rows so far are shapes. Before the first it is false, so that a text without rows gives version 1.
-    pub shapes: bool,
-    pub space: u32,
-    // Whether a line gave the space.
-    pub given: bool,
+    rows: Vec<Row>,
+    space: Option<u32>,
+    ghost few_rows: { vec_len rows ≤ greatest_rows },
 }
 
-// What comes of a line.
-#[derive(Clone, Copy)]
-pub enum Step {
-    Taken(Progress),
-    Refused(Reason),
+#[derive(Drop)]
+pub struct Sheet {
+    rows: Vec<Row>,
+    space: u32,
+    ghost few_rows: { vec_len rows ≤ greatest_rows },
 }
 
-pub(crate) fn start() -> Progress {
-    Progress {
-        next: Row(0),
-        shapes: false,
-        space: 0,
-        given: false,
+impl Progress {
+    pub(crate) fn new(alloc: Global) -> Progress {
+        Progress {
+            rows: Vec::new(alloc),
+            space: None,
+        }
+    }
+
+    fn add_space(&mut self, space: u32) -> Result<(), Reason> {
+        match self.space.replace(space) {
+            Some(_) => Err(Reason::SecondSpace),
+            None => Ok(()),
+        }
+    }
+
+    fn add_row(&mut self, row: Row) -> Result<(), Fault> {
+        if let Some(first) = self.rows.first()
+            && first.form() != row.form()
+        {
+            return Err(Fault::Refused(Reason::BothForms));
+        }
+        if self.rows.len() >= GREATEST_ROWS {
+            return Err(Fault::Refused(Reason::TooManyRows));
+        }
+        self.rows.push(row)?;
+        Ok(())
+    }
+
+    // Takes a line. One that says nothing adds nothing.
+    pub(crate) fn add_line(&mut self, line: &[u8]) -> Result<(), Fault> {
+        match text::entry_of(line)? {
+            Some(Entry::Space(space)) => self.add_space(space)?,
+            Some(Entry::Row(row)) => self.add_row(row)?,
+            None => {}
+        }
+        Ok(())
+    }
+
+    // The sheet, if a line gave the space.
+    pub(crate) fn finish(self) -> Result<Sheet, Fault> {
+        let Progress { rows, space } = self;
+        let space = space.ok_or(Reason::NoSpace)?;
+        Ok(Sheet { rows, space })
     }
 }
 
-// Why a line is no row of the form.
-fn not_row(shapes: bool) -> Reason {
-    if shapes {
-        return Reason::NotShape;
+impl Sheet {
+    // The version goes by the form of the rows. A sheet without rows has version 1.
+    fn version(&self) -> u16 {
+        match self.rows.first().map(Row::form) {
+            Some(Form::Shapes) => 2,
+            Some(Form::Sizes) | None => 1,
+        }
     }
-    Reason::NotRow
-}
 
-// Takes a line that is to be a row of the form.
-fn with_row(
-    progress: Progress,
-    shapes: bool,
-    line: &[u8],
-    rows: &mut [u8; GREATEST_BYTES],
-) -> Step {
-    let row = progress.next;
-    if !rows::put_row(rows, row, shapes, line) {
-        return Step::Refused(not_row(shapes));
+    // The mark, the version, the number of rows, the space and the rows. Of each number the lowest byte comes first.
+    fn bytes(&self, alloc: Global) -> Result<Vec<u8>, AllocError> {
+        let mut bytes = Vec::new(alloc);
+        bytes.extend_from_slice(b"ARN")?;
+        bytes.extend_from_slice(&self.version().to_le_bytes())?;
+        bytes.extend_from_slice(&(self.rows.len() as u16).to_le_bytes())?;
+        bytes.extend_from_slice(&self.space.to_le_bytes())?;
+        for row in self.rows.iter() {
+            for word in row.words() {
+                bytes.extend_from_slice(&word.to_le_bytes())?;
+            }
+        }
+        Ok(bytes)
     }
-    if (0 < row.0) & (progress.shapes != shapes) {
-        return Step::Refused(Reason::BothForms);
-    }
-    if request_table::GREATEST_ROWS <= row.0 {
-        return Step::Refused(Reason::TooManyRows);
-    }
-    Step::Taken(Progress {
-        next: Row(row.0 + 1),
-        shapes,
-        space: progress.space,
-        given: progress.given,
-    })
-}
 
-// Takes a line whose first word is `space`.
-fn with_space(progress: Progress, line: &[u8]) -> Step {
-    let number = decimal_text::natural(text::word(line, 1));
-    if (4294967295 < number) || (text::word(line, 2).len() != 0) {
-        return Step::Refused(Reason::NotSpace);
+    pub(crate) fn write(&self, rt: &(impl Print + AllocGlobal)) -> io::Result<()> {
+        let bytes = self.bytes(rt.alloc())?;
+        rt.write_all(bytes.as_slice())
     }
-    if progress.given {
-        return Step::Refused(Reason::SecondSpace);
-    }
-    let next = progress.next;
-    Step::Taken(Progress {
-        next,
-        shapes: progress.shapes,
-        space: number as u32,
-        given: true,
-    })
-}
-
-// Takes a line without its comment. One that has no words adds nothing.
-pub(crate) fn with_line(progress: Progress, line: &[u8], rows: &mut [u8; GREATEST_BYTES]) -> Step {
-    let first = text::word(line, 0);
-    if first.len() == 0 {
-        return Step::Taken(progress);
-    }
-    if first == b"space".as_slice() {
-        return with_space(progress, line);
-    }
-    with_row(progress, first == b"shape".as_slice(), line, rows)
-}
-
-// The version goes by the form of the rows.
-fn version_of(shapes: bool) -> u8 {
-    if shapes {
-        return 2;
-    }
-    1
-}
-
-// What stands before the rows: the mark, the version, the number of rows and the space. Of each number the lowest byte comes first.
-fn header(version: u8, rows: usize, space: u32) -> [u8; 11] {
-    [
-        b'A',
-        b'R',
-        b'N',
-        version,
-        0,
-        (rows % 256) as u8,
-        (rows / 256 % 256) as u8,
-        (space % 256) as u8,
-        (space / 256 % 256) as u8,
-        (space / 65536 % 256) as u8,
-        (space / 16777216) as u8,
-    ]
-}
-
-// Writes the sheet. The bytes are the rows', and those past the last row are not written.
-pub(crate) fn write(
-    rt: &impl Print,
-    progress: Progress,
-    rows: [u8; GREATEST_BYTES],
-) -> io::Result<()> {
-    let next = progress.next;
-    let header = header(version_of(progress.shapes), next.0, progress.space);
-    rt.write_all(&header)?;
-    let end = rows::WORD_BYTES * rows::place_of(next, progress.shapes);
-    rt.write_all(&rows[..end])
 }

@@ -1,94 +1,76 @@
-// Lines and words of a text.
-ghost use Rattle.std.specs.Prelude.{◌≤◌, length};
+// Lines of a text, their words, and what they say.
+ghost use Rattle.std.specs.Prelude.{length};
+ghost use Rattle.std.specs.Iterator.{at_most};
 
-// The first place from a start on at which one of two bytes stands, or, where `stands` is false, at which neither does; or else the text's end.
-fn find(text: &[u8], start: usize, one: u8, other: u8, stands: bool) -> usize
-    requires { start ≤ length text.now }
-    ensures lower_bound { start ≤ result }
-    ensures upper_bound { result ≤ length text.now }
-{
-    let mut at = start;
-    while at < text.len() {
-        let byte = text[at];
-        if ((byte == one) | (byte == other)) == stands {
-            return at;
-        }
-        at += 1;
-    }
-    at
+use crate::refusal::Reason;
+use crate::rows;
+use crate::rows::Row;
+
+// The words of a line: what stands between blanks and tabs. It is a type of its own, since the words of a line are counted and then read once more, so that
+// they must be copied.
+#[derive(Clone, Copy)]
+pub struct Words<'a>(&'a [u8]);
+
+fn is_blank(byte: u8) -> bool {
+    matches!(byte, b' ' | b'\t')
 }
 
-// Where the line that starts here ends.
-pub(crate) fn find_end(text: &[u8], start: usize) -> usize
-    requires { start ≤ length text.now }
-    ensures lower_bound { start ≤ result }
-    ensures upper_bound { result ≤ length text.now }
-{
-    find(text, start, b'\n', b'\n', true)
-}
+impl<'a> Iterator for Words<'a> {
+    type Item = &'a [u8];
 
-// Where the line from start to end ends without its carriage return. Only one before a line feed belongs to the line's end: elsewhere it is a
-// byte like any other, and no number has one.
-fn line_end(text: &[u8], start: usize, end: usize) -> usize
-    requires start_le_end { start ≤ end }
-    requires end_in_bounds { end ≤ length text.now }
-    ensures lower_bound { start ≤ result }
-    ensures upper_bound { result ≤ length text.now }
-{
-    if start < end {
-        let last = end - 1;
-        if end < text.len() {
-            if text[last] == b'\r' {
-                return last;
+    ghost remaining = { λ s. at_most (length s.0.now) };
+
+    fn next(&mut self) -> Option<&'a [u8]> {
+        let start = self.0.iter().position(|byte| !is_blank(*byte))?;
+        let rest = &self.0[start..];
+        match rest.iter().position(|byte| is_blank(*byte)) {
+            Some(end) => {
+                self.0 = &rest[end + 1..];
+                Some(&rest[..end])
+            }
+            None => {
+                self.0 = &[];
+                Some(rest)
             }
         }
     }
-    end
 }
 
-// The line from start to end, without its comment.
-pub(crate) fn line(text: &[u8], start: usize, end: usize) -> &[u8]
-    requires start_le_end { start ≤ end }
-    requires end_in_bounds { end ≤ length text.now }
-{
-    let end = line_end(text, start, end);
-    let line = &text[start..end];
-    let comment = find(line, 0, b'#', b'#', true);
-    &line[..comment]
+// What a line adds to a sheet.
+#[derive(Clone, Copy)]
+pub enum Entry {
+    Space(u32),
+    Row(Row),
 }
 
-// The first place from a start on that is a blank or a tab, or, where `blank` is false, that is neither; or else the line's end.
-fn find_blank(line: &[u8], start: usize, blank: bool) -> usize
-    requires { start ≤ length line.now }
-    ensures lower_bound { start ≤ result }
-    ensures upper_bound { result ≤ length line.now }
-{
-    find(line, start, b' ', b'\t', blank)
+// The line without its end and its comment. A carriage return belongs to the line's end only before a line feed: elsewhere it is a byte like any other,
+// and no number has one.
+fn content(line: &[u8]) -> &[u8] {
+    let line = line
+        .strip_suffix(b"\r\n")
+        .or(line.strip_suffix(b"\n"))
+        .unwrap_or(line);
+    line.split(|byte| *byte == b'#').next().unwrap_or(line)
 }
 
-// The word of that number, the first being word 0; empty if the line has fewer.
-pub(crate) fn word(line: &[u8], number: usize) -> &[u8] {
-    let mut start = find_blank(line, 0, false);
-    let mut passed = 0;
-    while passed < number {
-        let end = find_blank(line, start, true);
-        start = find_blank(line, end, false);
-        passed += 1;
+// The number behind the word `space`, with nothing after it.
+fn space(mut words: Words<'_>) -> Option<u32> {
+    let number = decimal_text::natural(words.next()?)?;
+    if words.next().is_some() {
+        return None;
     }
-    let end = find_blank(line, start, true);
-    &line[start..end]
+    u32::try_from(number).ok()
 }
 
-// How many words the line has, or so many as are enough.
-pub(crate) fn count_words(line: &[u8], enough: usize) -> usize
-    ensures { result ≤ enough }
-{
-    let mut count = 0;
-    while count < enough {
-        if word(line, count).len() == 0 {
-            return count;
-        }
-        count += 1;
-    }
-    count
+// What a line says. One that has no words says nothing.
+pub(crate) fn entry_of(line: &[u8]) -> Result<Option<Entry>, Reason> {
+    let words = Words(content(line));
+    let mut others = words;
+    let entry = match others.next() {
+        None => return Ok(None),
+        Some(b"space") => Entry::Space(space(others).ok_or(Reason::NotSpace)?),
+        Some(b"shape") => Entry::Row(rows::shape(others).ok_or(Reason::NotShape)?),
+        Some(_) => Entry::Row(rows::size(words).ok_or(Reason::NotRow)?),
+    };
+    Ok(Some(entry))
 }

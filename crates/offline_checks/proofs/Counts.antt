@@ -1,17 +1,13 @@
--- The test of the third word by its bits, as the code makes it.
-use Prim.Native.Nat.{ℕ, ◌-◌}
-use mathlib.Core.Bool.{Bool, true, false, cond, ◌&&◌}
-use mathlib.Core.Path.{◌≡◌, refl}
-use lib.Dec.{ltb, eqb}
-use lib.IntN.{pos, negsuc}
-use Rattle.word_bytes.specs.Bytes.{signed_word}
+-- The test of the third word, as the code makes it in 64 bits, where a signed word and a count are two numbers of one type.
+use Rattle.std.specs.Prelude.{ℕ, suc, ◌-◌, ◌<◌, ◌^◌, eqb, ◌≡◌, refl, ℤ, pos, negsuc}
+use Rattle.std.proofs.Common.{arith, ne_eqb}
+use Rattle.std.specs.Int.Signed.{mag}
+use mir.Syntax.{w64}
+use mir.Val.{of_z}
 use Rattle.offline_rule.specs.OfflinePlan.{is_number}
 
--- Bits below half that are the number: the word is the number.
-pub by_bits : (bits n : ℕ) → ltb bits 2147483648 && eqb bits n ≡ is_number (signed_word bits) n
-unfolding signed_word is_number
-by_bits bits n = go (ltb bits 2147483648)
-  where
-    go : (b : Bool) → b && eqb bits n ≡ is_number (cond b (pos bits) (negsuc (4294967295 - bits))) n
-    go true = refl
-    go false = refl
+-- Those that have the same bits there are the same number.
+pub by_number : (z : ℤ) (n : ℕ) → mag z < 2 ^ 31 → n < 2 ^ 32 → eqb (of_z w64 z) (of_z w64 (pos n)) ≡ is_number z n
+unfolding is_number
+by_number (pos m) n l h = refl
+by_number (negsuc m) n l h = ne_eqb (2 ^ 64 - suc m) n (omega arith)

@@ -3,96 +3,75 @@
 #![tactic(auto)]
 
 ghost use Rattle.std.specs.Prelude.{◌≤◌, ◌≡◌};
-ghost use Rattle.request_table.specs.Buffers.{buffer_at};
+ghost use Rattle.answer.specs.Refusals.{answer_of};
+ghost use Rattle.units.specs.Numbered.{row_of};
 ghost use Rattle.request_table.specs.Limits.{grid as grid_of, greatest_rows};
 ghost use Rattle.request_table.specs.Table.{rows as rows_of};
-ghost use Rattle.inspection_rule.specs.Inspect.{proposed, proposed_need, pair_of, proposal_of, inspect_of};
+ghost use Rattle.inspection_rule.specs.Inspect.{proposed_collide, proposal_of, inspect_of};
+ghost use Rattle.plan_inspector.specs.FirstPair.{first_pair_of};
 
-use answer::Answer;
-use request_table::Buffer;
+use answer::{Answer, Cause, Refusal};
+use proposals::Proposal;
+use request_rows::Table;
 use units::Row;
 
-// The row's buffer at its proposed offset.
-fn buffer_of(grid: u32, table: &[i32], offsets: &[i32], row: Row) -> Buffer
-    ensures { result ≡ buffer_at grid table.now row.0 (proposed offsets.now row.0) }
+// The first pair of rows that collide, the least first row and then the least second. Document 01 has that two nested scans are left from inside, by
+// a label, at that pair. The scan of `fixed_rows` is a function of its own: here the outer row's buffer is worked out once for all inner rows, which a test of
+// two rows, handed to one function for both, could not do.
+fn first_pair(proposal: &Proposal) -> Option<(Row, Row)>
+    ensures { result ≡ first_pair_of row_of (proposed_collide proposal.now.table.grid proposal.now.table.words.now proposal.now.offsets.now) (rows_of proposal.now.table.words.now) }
 {
-    buffers::buffer_at(
-        grid,
-        request_rows::request_at(table, row),
-        proposals::proposed_at(offsets, row),
-    )
-}
-
-// The check 10: both scans end at once, at the first pair of rows that collide, which becomes the answer's two places.
-fn judge_pairs(grid: u32, table: &[i32], offsets: &[i32], need: u64) -> Answer
-    requires table_bound { rows_of table.now ≤ greatest_rows }
-    requires need_value { need ≡ proposed_need grid table.now offsets.now }
-    ensures { result ≡ pair_of grid table.now offsets.now }
-{
-    let n = table.len() / request_table::ROW_WORDS;
-    let mut answer = Answer::done(need);
-    let mut a = Row(0);
-    'scan: while a.0 < n {
-        let first = buffer_of(grid, table, offsets, a);
-        let mut b = Row(a.0 + 1);
-        while b.0 < n {
-            if buffers::collide(first, buffer_of(grid, table, offsets, b)) {
-                answer = Answer::refused_pair(Answer::ROWS_COLLIDE, a.0 as u32, b.0 as u32);
+    let n = proposal.table.rows();
+    let mut pair = None;
+    'scan: for a in 0..n {
+        let first = proposal.buffer(Row(a));
+        for b in a + 1..n {
+            if buffers::collide(first, proposal.buffer(Row(b))) {
+                pair = Some((Row(a), Row(b)));
                 break 'scan;
             }
-            b = Row(b.0 + 1);
         }
-        a = Row(a.0 + 1);
     }
-    answer
+    pair
 }
 
-// The checks 8, 9, 7 and 10. Each is worked out before the first is told, so that their order stands in one place.
-fn judge_offsets(grid: u32, table: &[i32], space: u32, offsets: &[i32]) -> Answer
-    requires { rows_of table.now ≤ greatest_rows }
-    ensures { result ≡ proposal_of grid table.now space offsets.now }
+// The checks 8, 9, 7 and 10, in that order: the need of the plan, or what is wrong with it.
+fn judge_offsets(proposal: &Proposal, space: u32) -> Result<u64, Refusal>
+    requires { rows_of proposal.now.table.words.now ≤ greatest_rows }
+    ensures { answer_of result ≡ proposal_of proposal.now.table.grid proposal.now.table.words.now space proposal.now.offsets.now }
 {
-    let n = table.len() / request_table::ROW_WORDS;
-    let shifted = proposals::lowest_moved(table, offsets);
-    let uneven = proposals::lowest_off_grid(grid, offsets, n);
-    let need = proposed_need::need_of(grid, table, offsets);
-    let moved = Answer::refused_at(Answer::FIXED_ROW_MOVED, shifted.0 as u32);
-    let off_grid = Answer::refused_at(Answer::BAD_OFFSET, uneven.0 as u32);
-    let too_much = Answer::refused_need(Answer::NEED_EXCEEDS_SPACE, need);
-    let paired = judge_pairs(grid, table, offsets, need);
-    let has_moved = shifted.0 < n;
-    let has_off_grid = uneven.0 < n;
+    if let Some(row) = proposal.lowest_moved() {
+        return Err(Refusal::at(Cause::FixedRowMoved, row.0 as u32));
+    }
+    if let Some(row) = proposal.lowest_off_grid() {
+        return Err(Refusal::at(Cause::BadOffset, row.0 as u32));
+    }
+    let need = proposed_need::need_of(proposal);
     let exceeds = (space as u64) < need;
-    let collide = paired.number != Answer::DONE;
-    if has_moved {
-        return moved;
-    }
-    if has_off_grid {
-        return off_grid;
-    }
     if exceeds {
-        return too_much;
+        return Err(Refusal::with_need(Cause::NeedExceedsSpace, need));
     }
-    if collide {
-        return paired;
+    if let Some((a, b)) = first_pair(proposal) {
+        return Err(Refusal::pair(Cause::RowsCollide, a.0 as u32, b.0 as u32));
     }
-    Answer::done(need)
+    Ok(need)
 }
 
-// The inspector on any grid.
-pub fn judge(grid: u32, requests: &[i32], space: u32, offsets: &[i32]) -> Answer
-    ensures { result ≡ inspect_of grid requests.now space offsets.now }
+// The inspector on any grid: the need of a plan that is accepted, or what is wrong with it.
+pub fn judge(proposal: &Proposal, space: u32) -> Result<u64, Refusal>
+    ensures { answer_of result ≡ inspect_of proposal.now.table.grid proposal.now.table.words.now space proposal.now.offsets.now }
 {
-    let checked = requests::check(grid, requests, space, offsets.len());
-    if checked.number != Answer::DONE {
-        return checked;
-    }
-    judge_offsets(grid, requests, space, offsets)
+    requests::check(&proposal.table, space, proposal.offsets.len())?;
+    judge_offsets(proposal, space)
 }
 
 // Document 01's inspector. Refused: 1, 2, 3, 4, 5, 8, 9, 7, 10, in that order; accepted: the need.
 pub fn inspect(requests: &[i32], space: u32, offsets: &[i32]) -> Answer
     ensures { result ≡ inspect_of grid_of requests.now space offsets.now }
 {
-    judge(requests::GRID, requests, space, offsets)
+    let table = Table {
+        grid: requests::GRID,
+        words: requests,
+    };
+    Answer::from(judge(&Proposal { table, offsets }, space))
 }

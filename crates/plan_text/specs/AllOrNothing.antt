@@ -1,6 +1,6 @@
 -- A text is written whole or not at all: what the definitions of the written bytes say in each of the two cases.
-use Rattle.std.specs.Prelude.{ℕ, ◌≤◌, Bool, true, false, List, ◌≡◌, refl, leb, length}
-use Rattle.std.proofs.Common.{arith, leb-true}
+use Rattle.std.specs.Prelude.{ℕ, ◌≤◌, Bool, true, false, Some, None, List, ◌≡◌, refl, leb, length}
+use Rattle.std.proofs.Common.{ap, arith, leb-true}
 use Rattle.bounded.proofs.Boolean.{both}
 use Rattle.request_table.specs.Limits.{greatest_rows}
 use Rattle.text_pieces.specs.Put.{Put, Room}
@@ -21,11 +21,11 @@ room_for n t piece e l = record { holds = omega (arith, l, (room_says n (length 
 
 -- With room, the text stands in front.
 pub whole_written : {roomy : Bool} {t u text : List ℕ} {e : ℕ} → roomy ≡ true → Put t u 0 e text
-    → (e ≡ written_length roomy text) × (u ≡ written_into roomy text t)
+    → (Some e ≡ written_length roomy text) × (u ≡ written_into roomy text t)
 unfolding written_length written_into
-whole_written r x = rw r (put_at_start x)
+whole_written r x = let put = put_at_start x in rw r (ap Some put.0, put.1)
 
 -- With none, nothing changes.
-pub nothing_written : {roomy : Bool} (t text : List ℕ) → roomy ≡ false → (0 ≡ written_length roomy text) × (t ≡ written_into roomy text t)
+pub nothing_written : {roomy : Bool} (t text : List ℕ) → roomy ≡ false → (None ≡ written_length roomy text) × (t ≡ written_into roomy text t)
 unfolding written_length written_into
 nothing_written t text r = rw r (refl, refl)

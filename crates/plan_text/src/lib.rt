@@ -32,11 +32,9 @@ fn put_rows(text: &mut [u8], at: usize, offsets: &[i32]) -> usize
     ensures { Put text.old text.new at result (row_lines (offset_in offsets.now) (length offsets.now)) }
 {
     let mut next = at;
-    let mut row = Row(0);
-    while row.0 < offsets.len() {
-        let offset = words::natural(offsets, row.0);
-        next = put_row(text, next, row, offset);
-        row = Row(row.0 + 1);
+    for row in 0..offsets.len() {
+        let offset = words::natural(offsets, row);
+        next = put_row(text, next, Row(row), offset);
     }
     next
 }
@@ -72,34 +70,36 @@ fn put_refusal(text: &mut [u8], answer: Answer) -> usize
 }
 
 // Whether there is room for any text over so many offsets.
+#[tactic(auto, unfolding(crate::specs::Written::has_room))]
 fn has_room(offsets: usize, room: usize) -> bool
     ensures { result ≡ has_room offsets room }
 {
     (offsets <= GREATEST_ROWS) & (GREATEST_TEXT <= room)
 }
 
-// The text of an answer: the plan, with an offset for each row, where it is done, and else the refusal. Gives how many bytes were written; 0, and nothing
+// The text of an answer: the plan, with an offset for each row, where it is done, and else the refusal. Gives how many bytes were written; none, and nothing
 // changes, where there is no room.
-pub fn write_answer(answer: Answer, offsets: &[i32], text: &mut [u8]) -> usize
+pub fn write_answer(answer: Answer, offsets: &[i32], text: &mut [u8]) -> Option<usize>
     ensures count { result ≡ written_length (has_room (length offsets.now) (length text.old)) (answer_text answer (offset_in offsets.now) (length offsets.now)) }
     ensures bytes { text.new ≡ written_into (has_room (length offsets.now) (length text.old)) (answer_text answer (offset_in offsets.now) (length offsets.now)) text.old }
 {
     if !has_room(offsets.len(), text.len()) {
-        return 0;
+        return None;
     }
+    // What an entry point answers is told by its number, as document 01 has it.
     if answer.number == Answer::DONE {
-        return put_plan(text, answer.need, offsets);
+        return Some(put_plan(text, answer.need, offsets));
     }
-    put_refusal(text, answer)
+    Some(put_refusal(text, answer))
 }
 
-// The line `bad sheet`; 0, and nothing changes, where there is no room.
-pub fn write_bad_sheet(text: &mut [u8]) -> usize
+// The line `bad sheet`; none, and nothing changes, where there is no room.
+pub fn write_bad_sheet(text: &mut [u8]) -> Option<usize>
     ensures count { result ≡ written_length (has_room 0 (length text.old)) bad_sheet_text }
     ensures bytes { text.new ≡ written_into (has_room 0 (length text.old)) bad_sheet_text text.old }
 {
     if !has_room(0, text.len()) {
-        return 0;
+        return None;
     }
-    put_text(text, 0, b"bad sheet\n")
+    Some(put_text(text, 0, b"bad sheet\n"))
 }

@@ -1,90 +1,84 @@
 // The two planners beside each other, and the inspector beside the test of all pairs.
-use crate::{all_pairs, changes, numbers, rows, second_planner, table, tally};
+use crate::generator::Table;
+use crate::tally::Tally;
+use crate::{all_pairs, changes, second_planner};
 use answer::Answer;
+use std::alloc::{AllocError, Global};
 
-fn same_answer(a: Answer, b: Answer) -> bool {
-    (a.number == b.number) & (a.a == b.a) & (a.b == b.b) & (a.need == b.need)
+// What every lent entry holds before. No plan has it.
+const UNWRITTEN: i32 = 9999;
+
+// What a planner answers and leaves. Two planners agree if their answers and every entry of their tables do.
+#[derive(PartialEq, Drop)]
+struct Planned {
+    answer: Answer,
+    offsets: Vec<i32>,
 }
 
-// Whether two tables are equal, each entry that they have.
-fn same_table(a: &[i32], b: &[i32]) -> bool {
-    let mut at = 0;
-    while at < a.len() {
-        if table::word(a, at as u64) != table::word(b, at as u64) {
-            return false;
-        }
-        at += 1;
-    }
-    a.len() == b.len()
+// What a planner answers and leaves in so many entries.
+fn left_by<F: FnOnce(&mut [i32]) -> Result<Answer, AllocError>>(
+    alloc: Global,
+    room: usize,
+    plan: F,
+) -> Result<Planned, AllocError>
+    requires { F.IsAlwaysCallable plan }
+{
+    let mut offsets = vec![in alloc; UNWRITTEN; room]?;
+    let answer = plan(&mut offsets)?;
+    Ok(Planned { answer, offsets })
 }
 
 // The inspector's answer to offsets, beside our own.
-fn inspect(requests: &[i32], space: u32, offsets: &[i32], tally: &mut [u64]) {
+fn inspect(
+    alloc: Global,
+    requests: &[i32],
+    space: u32,
+    offsets: &[i32],
+    tally: &mut Tally,
+) -> Result<(), AllocError> {
     let answer = plan_inspector::inspect(requests, space, offsets);
-    tally::add_answer(tally, tally::INSPECTOR, answer);
-    let other = all_pairs::judge(requests, space, offsets);
-    tally::add_if(tally, tally::DISAGREEMENTS, !same_answer(answer, other));
+    let other = all_pairs::judge(alloc, requests, space, offsets)?;
+    tally.add_inspection(answer, answer == other);
+    Ok(())
 }
 
-// What a planner answers and leaves.
-#[derive(Clone, Copy)]
-struct Planned {
-    answer: Answer,
-    offsets: [i32; changes::OFFSETS],
-}
-
-fn first_plan(requests: &[i32], space: u32, room: u64) -> Planned {
-    let mut offsets = changes::unwritten();
-    let answer = greedy_planner::plan(requests, space, table::lent_front(&mut offsets, room));
-    Planned { answer, offsets }
-}
-
-fn second_plan(requests: &[i32], space: u32, room: u64) -> Planned {
-    let mut offsets = changes::unwritten();
-    let answer = second_planner::plan(requests, space, table::lent_front(&mut offsets, room));
-    Planned { answer, offsets }
-}
-
-// Whether two planners agree in their answers and in every entry of their tables.
-fn same_plan(a: Planned, b: Planned) -> bool {
-    let ours = a.offsets;
-    let theirs = b.offsets;
-    same_answer(a.answer, b.answer) & same_table(&ours, &theirs)
-}
-
-// The inspector's answers to the changes of what a planner left, with so many entries lent.
+// The inspector's answers to the changes of what a planner left. Of a refusal only the first is tried: its table is inspected as it is.
 fn inspect_changes(
-    number: u32,
-    requests: &[i32],
+    alloc: Global,
+    table: &Table,
     space: u32,
-    planned: Planned,
-    room: u64,
-    tally: &mut [u64],
-) {
-    let offsets = planned.offsets;
-    let count = changes::count(planned.answer);
-    let rows = numbers::narrow(rows::count(requests));
-    let mut change = 0;
-    while change < count {
-        let changed = changes::apply(offsets, rows, number, change);
-        inspect(requests, space, table::front(&changed, room), tally);
-        change += 1;
+    planned: &Planned,
+    tally: &mut Tally,
+) -> Result<(), AllocError> {
+    let count = if planned.answer.number == Answer::DONE {
+        changes::CHANGES
+    } else {
+        1
+    };
+    for change in 0..count {
+        let mut offsets = planned.offsets.clone()?;
+        changes::apply(&mut offsets, table.rows, table.number, change);
+        inspect(alloc, &table.requests, space, &offsets, tally)?;
     }
+    Ok(())
 }
 
-// Both planners' answers and tables in a space, with so many entries lent, and what the inspector says of the table that is left and of changed plans.
-// Gives the first planner's answer.
+// Both planners' answers and tables in a space, and what the inspector says of the table that is left and of changed plans. Gives the first planner's
+// answer.
 pub(crate) fn plan(
-    number: u32,
-    requests: &[i32],
+    alloc: Global,
+    table: &Table,
     space: u32,
-    room: u64,
-    tally: &mut [u64],
-) -> Answer {
-    let planned = first_plan(requests, space, room);
-    let same = same_plan(planned, second_plan(requests, space, room));
-    tally::add_answer(tally, tally::PLANNER, planned.answer);
-    tally::add_if(tally, tally::DISAGREEMENTS, !same);
-    inspect_changes(number, requests, space, planned, room, tally);
-    planned.answer
+    tally: &mut Tally,
+) -> Result<Answer, AllocError> {
+    let requests = table.requests.as_slice();
+    let first = left_by(alloc, table.room, |offsets| {
+        Ok(greedy_planner::plan(requests, space, offsets))
+    })?;
+    let second = left_by(alloc, table.room, |offsets| {
+        second_planner::plan(alloc, requests, space, offsets)
+    })?;
+    tally.add_plan(first.answer, first == second);
+    inspect_changes(alloc, table, space, &first, tally)?;
+    Ok(first.answer)
 }

@@ -1,40 +1,13 @@
 // The request tables that are compared. What a table is like are the digits of its number, so that every kind of sizes meets every kind of lives, of
 // offsets, of length and of faults; the rest is drawn.
-use crate::{draw, numbers, table};
+ghost use Rattle.std.specs.Prelude.{◌≤◌};
+
+use crate::draw::{self, Purpose};
+use crate::rows::GREATEST_ROWS;
+use std::alloc::{AllocError, Global};
 
 // Each kind of sizes, lives, offsets, length and faults with each, 5 by 4 by 4 by 4 by 8, twice.
-pub const TABLES: u32 = 5120;
-
-// Words enough for three rows more than are allowed, and three words.
-pub const GREATEST_WORDS: usize = 4 * table::ROWS + 15;
-
-// What else is drawn for a table than its words.
-const ROWS: u32 = 60000;
-
-const WORDS: u32 = 60001;
-
-const ROOM: u32 = 60002;
-
-const SPACE: u32 = 60003;
-
-const EQUAL_SIZE: u32 = 60004;
-
-const BAD_ROW: u32 = 60005;
-
-const OTHER_BAD_ROW: u32 = 60006;
-
-const FAULT: u32 = 60010;
-
-// The faults that a table may have.
-const PART_OF_A_ROW: u32 = 0;
-
-const TOO_MANY_ROWS: u32 = 1;
-
-const SHORT_ROOM: u32 = 2;
-
-const GREAT_SPACE: u32 = 3;
-
-const BAD_ROWS: u32 = 4;
+pub(crate) const TABLES: u32 = 5120;
 
 const SPACES: [u32; 4] = [512, 2048, 16384, 16777216];
 
@@ -45,162 +18,274 @@ const GREAT_SPACES: [u32; 4] = [4294967295, 16777217, 16777217, 16777217];
 const EXTREMES: [u32; 6] = [16777216, 16777215, 16777201, 16777200, 1, 0];
 
 // The ways in which a row is made bad: which of its words is changed, and to what.
-const BAD_COLUMNS: [u64; 9] = [0, 0, 1, 2, 2, 3, 3, 3, 3];
-
-const BAD_WORDS: [i32; 9] = [-1, 16777217, -1, 65536, -1, -2, 8, 16777232, -2147483648];
-
-// Whether the table has the fault. Half of the tables have none, three in eight have one, and in the others each stands with an even chance.
-fn has(number: u32, fault: u32) -> bool {
-    match number / 320 % 8 {
-        0 | 1 | 2 | 3 => false,
-        7 => draw::below(2, number, FAULT + fault % 8) == 0,
-        _ => draw::below(5, number, FAULT) == fault,
-    }
-}
-
-// A long table has as many rows as are allowed one time in 48, since that costs most, or a quarter or an eighth of them.
-fn long_rows(number: u32) -> u32 {
-    let choice = draw::below(48, number, ROWS);
-    if choice == 0 {
-        return table::ROWS as u32;
-    }
-    if choice < 8 {
-        return 256;
-    }
-    128
-}
-
-// How many rows: few, some, many, or up to as many as are allowed.
-fn rows(number: u32) -> u32 {
-    if has(number, TOO_MANY_ROWS) {
-        return table::ROWS as u32 + 1 + draw::below(3, number, ROWS);
-    }
-    match number / 80 % 4 {
-        0 => draw::below(6, number, ROWS),
-        1 => 4 + draw::below(20, number, ROWS),
-        2 => 20 + draw::below(60, number, ROWS),
-        _ => long_rows(number),
-    }
-}
-
-// How many words.
-pub(crate) fn words(number: u32) -> u64 {
-    let whole = rows(number) as u64 * 4;
-    if has(number, PART_OF_A_ROW) {
-        return whole + 1 + draw::below(3, number, WORDS) as u64;
-    }
-    whole
-}
-
-// How many offsets are lent: three more than rows, or too few.
-pub(crate) fn room(number: u32) -> u64 {
-    let rows = rows(number);
-    if has(number, SHORT_ROOM) {
-        return draw::below(rows, number, ROOM) as u64;
-    }
-    rows as u64 + 3
-}
-
-pub(crate) fn space(number: u32) -> u32 {
-    let choice = draw::below(4, number, SPACE) as usize % 4;
-    if has(number, GREAT_SPACE) {
-        return GREAT_SPACES[choice];
-    }
-    SPACES[choice]
-}
+const BAD_WORDS: [(usize, i32); 9] = [
+    (0, -1),
+    (0, 16777217),
+    (1, -1),
+    (2, 65536),
+    (2, -1),
+    (3, -2),
+    (3, 8),
+    (3, 16777232),
+    (3, -2147483648),
+];
 
 // Any; all of two steps, so that they are equal in what they take; all equal; at the ends; every other one empty.
-fn size(number: u32, row: u32) -> u32 {
-    let purpose = row % 2048 * 8;
-    match number % 5 {
-        0 => draw::below(400, number, purpose),
-        1 => 17 + draw::below(16, number, purpose),
-        2 => 1 + draw::below(300, number, EQUAL_SIZE),
-        3 => EXTREMES[draw::below(6, number, purpose) as usize % 6],
-        _ => draw::below(row % 2 * 100, number, purpose),
-    }
+#[derive(Clone, Copy)]
+enum Sizes {
+    Any,
+    TwoSteps,
+    Equal,
+    Extreme,
+    EveryOtherEmpty,
 }
 
 // Any; all alive together; a chain, each from its own moment to the next row's; of one moment each, at the end of the range.
-fn first(number: u32, row: u32) -> u64 {
-    let purpose = row % 2048 * 8 + 1;
-    match number / 5 % 4 {
-        0 => draw::below(20, number, purpose) as u64,
-        1 => 3,
-        2 => row as u64,
-        _ => 65530 + draw::below(6, number, purpose) as u64,
+#[derive(Clone, Copy)]
+enum Lives {
+    Any,
+    Together,
+    Chain,
+    OneMoment,
+}
+
+// Which rows are fixed: none; every third, apart from the others; every other one, close to the others; one in eight, far up.
+#[derive(Clone, Copy)]
+enum Offsets {
+    Free,
+    EveryThird,
+    EveryOther,
+    OneInEight,
+}
+
+// How many rows: few, some, many, or up to as many as are allowed.
+#[derive(Clone, Copy)]
+enum Length {
+    Few,
+    Some,
+    Many,
+    Long,
+}
+
+// Which faults a table has. Half of the tables have none, three in eight have one, and in the others each stands with an even chance.
+#[derive(Clone, Copy)]
+enum Faults {
+    Nothing,
+    One,
+    Each,
+}
+
+// The faults that a table may have. Of bad rows there are up to two.
+#[derive(Clone, Copy)]
+pub enum Fault {
+    PartOfARow,
+    TooManyRows,
+    ShortRoom,
+    GreatSpace,
+    BadRows,
+}
+
+// What a table is like, by the digits of its number.
+#[derive(Clone, Copy)]
+struct Kind {
+    number: u32,
+    sizes: Sizes,
+    lives: Lives,
+    offsets: Offsets,
+    length: Length,
+    faults: Faults,
+}
+
+impl Kind {
+    fn of(number: u32) -> Kind {
+        Kind {
+            number,
+            sizes: match number % 5 {
+                0 => Sizes::Any,
+                1 => Sizes::TwoSteps,
+                2 => Sizes::Equal,
+                3 => Sizes::Extreme,
+                _ => Sizes::EveryOtherEmpty,
+            },
+            lives: match number / 5 % 4 {
+                0 => Lives::Any,
+                1 => Lives::Together,
+                2 => Lives::Chain,
+                _ => Lives::OneMoment,
+            },
+            offsets: match number / 20 % 4 {
+                0 => Offsets::Free,
+                1 => Offsets::EveryThird,
+                2 => Offsets::EveryOther,
+                _ => Offsets::OneInEight,
+            },
+            length: match number / 80 % 4 {
+                0 => Length::Few,
+                1 => Length::Some,
+                2 => Length::Many,
+                _ => Length::Long,
+            },
+            faults: match number / 320 % 8 {
+                0..=3 => Faults::Nothing,
+                4..=6 => Faults::One,
+                _ => Faults::Each,
+            },
+        }
+    }
+
+    // A number from 0 up to a bound, without it, drawn for the table.
+    fn below(&self, bound: u32, purpose: Purpose) -> u32
+        ensures { result ≤ 16777215 }
+    {
+        draw::below(bound, self.number, purpose)
+    }
+
+    // Whether the table has the fault.
+    fn has(&self, fault: Fault) -> bool {
+        match self.faults {
+            Faults::Nothing => false,
+            Faults::One => self.below(5, Purpose::OneFault) == fault as u32,
+            Faults::Each => self.below(2, Purpose::EachFault(fault)) == 0,
+        }
+    }
+
+    // A long table has as many rows as are allowed one time in 48, since that costs most, or a quarter or an eighth of them.
+    fn rows(&self) -> u32 {
+        if self.has(Fault::TooManyRows) {
+            return GREATEST_ROWS as u32 + 1 + self.below(3, Purpose::Rows);
+        }
+        match self.length {
+            Length::Few => self.below(6, Purpose::Rows),
+            Length::Some => 4 + self.below(20, Purpose::Rows),
+            Length::Many => 20 + self.below(60, Purpose::Rows),
+            Length::Long => match self.below(48, Purpose::Rows) {
+                0 => GREATEST_ROWS as u32,
+                1..=7 => 256,
+                _ => 128,
+            },
+        }
+    }
+
+    // How many offsets are lent: three more than rows, or too few.
+    fn room(&self) -> usize {
+        let rows = self.rows();
+        if self.has(Fault::ShortRoom) {
+            return self.below(rows, Purpose::Room) as usize;
+        }
+        rows as usize + 3
+    }
+
+    // The space that the table is planned in first.
+    fn space(&self) -> u32 {
+        let choice = self.below(4, Purpose::Space) as usize % 4;
+        if self.has(Fault::GreatSpace) {
+            return GREAT_SPACES[choice];
+        }
+        SPACES[choice]
+    }
+
+    // The size of a row.
+    fn size(&self, row: u32) -> u32 {
+        let purpose = Purpose::Size(row);
+        match self.sizes {
+            Sizes::Any => self.below(400, purpose),
+            Sizes::TwoSteps => 17 + self.below(16, purpose),
+            Sizes::Equal => 1 + self.below(300, Purpose::EqualSize),
+            Sizes::Extreme => EXTREMES[self.below(6, purpose) as usize % 6],
+            Sizes::EveryOtherEmpty => self.below(row % 2 * 100, purpose),
+        }
+    }
+
+    // The first moment of a row, and how many more there are.
+    fn life(&self, row: u32) -> (u32, u32) {
+        match self.lives {
+            Lives::Any => (
+                self.below(20, Purpose::First(row)),
+                self.below(8, Purpose::LengthOfLife(row)),
+            ),
+            Lives::Together => (3, 4),
+            Lives::Chain => (row, 1),
+            Lives::OneMoment => (65530 + self.below(6, Purpose::First(row)), 0),
+        }
+    }
+
+    // Where the row is, if it is fixed.
+    fn offset(&self, row: u32) -> Option<u32> {
+        let step = self.below(40, Purpose::Offset(row));
+        match self.offsets {
+            Offsets::Free => None,
+            Offsets::EveryThird => (row % 3 == 0).then_some(row.saturating_mul(512)),
+            Offsets::EveryOther => (row % 2 == 0).then_some(step * 16),
+            Offsets::OneInEight => {
+                let fixed = self.below(8, Purpose::Fixed(row)) == 0;
+                fixed.then_some(step * 64 + 16774720)
+            }
+        }
+    }
+
+    // The words of a row.
+    fn row(&self, row: u32) -> [i32; 4] {
+        let (first, more) = self.life(row);
+        [
+            word(self.size(row)),
+            word(first),
+            word(first.saturating_add(more)),
+            self.offset(row).map_or(-1, word),
+        ]
+    }
+
+    // Makes a row bad.
+    fn spoil(&self, purpose: Purpose, words: &mut [i32]) {
+        let start = self.below(self.rows(), purpose) as usize * 4;
+        let (column, bad) = BAD_WORDS[self.below(9, purpose) as usize % 9];
+        if let Some(word) = words.get_mut(start.saturating_add(column)) {
+            *word = bad;
+        }
+    }
+
+    // The table's rows, of which up to two are bad where it is to have bad ones, and up to three words more where it is to have those.
+    fn requests(&self, alloc: Global) -> Result<Vec<i32>, AllocError> {
+        let mut words = Vec::new(alloc);
+        for row in 0..self.rows() {
+            words.extend_from_slice(&self.row(row))?;
+        }
+        if self.has(Fault::BadRows) {
+            self.spoil(Purpose::BadRow, &mut words);
+            self.spoil(Purpose::OtherBadRow, &mut words);
+        }
+        if self.has(Fault::PartOfARow) {
+            for _ in 0..1 + self.below(3, Purpose::MoreWords) {
+                words.push(0)?;
+            }
+        }
+        Ok(words)
     }
 }
 
-fn length_of_life(number: u32, row: u32) -> u64 {
-    match number / 5 % 4 {
-        0 => draw::below(8, number, row % 2048 * 8 + 2) as u64,
-        1 => 4,
-        2 => 1,
-        _ => 0,
-    }
+// The word of a number, or -1 where it has none, as no number that is drawn is: a table may have any word.
+fn word(number: u32) -> i32 {
+    i32::try_from(number).unwrap_or(-1)
 }
 
-// Which rows are fixed: none; every third; every other one; one in eight.
-fn is_fixed(number: u32, row: u32) -> bool {
-    match number / 20 % 4 {
-        0 => false,
-        1 => row % 3 == 0,
-        2 => row % 2 == 0,
-        _ => draw::below(8, number, row % 2048 * 8 + 3) == 0,
-    }
+// A table, how many rows it has, the space that it is planned in, and how many offsets are lent.
+#[derive(Drop)]
+pub struct Table {
+    pub number: u32,
+    pub rows: u32,
+    pub requests: Vec<i32>,
+    pub space: u32,
+    pub room: usize,
 }
 
-// Where a fixed row is: every third apart from the others, every other one close to the others, one in eight far up.
-fn offset(number: u32, row: u32) -> i32 {
-    let step = draw::below(40, number, row % 2048 * 8 + 4) as u64;
-    if !is_fixed(number, row) {
-        return -1;
-    }
-    match number / 20 % 4 {
-        1 => numbers::signed(row as u64 * 512),
-        2 => numbers::signed(step * 16),
-        _ => numbers::signed(step * 64 + 16774720),
-    }
-}
-
-// A word of the table, by its place.
-fn word(number: u32, at: u32) -> i32 {
-    let row = at / 4;
-    let first = first(number, row);
-    match at % 4 {
-        0 => numbers::signed(size(number, row) as u64),
-        1 => numbers::signed(first),
-        2 => numbers::signed(numbers::sum(first, length_of_life(number, row))),
-        _ => offset(number, row),
-    }
-}
-
-fn put_words(number: u32, count: u32, requests: &mut [i32]) {
-    let mut at = 0;
-    while at < count {
-        table::put_word(requests, at as u64, word(number, at));
-        at += 1;
-    }
-}
-
-// Makes a row bad.
-fn spoil(number: u32, purpose: u32, requests: &mut [i32]) {
-    let start = draw::below(rows(number), number, purpose) as u64 * 4;
-    let way = draw::below(9, number, purpose) as usize % 9;
-    table::put_word(requests, start + BAD_COLUMNS[way] % 4, BAD_WORDS[way]);
-}
-
-// Words that are not written yet. An array is made in a function of its own: where it is made, every later fact would carry its entries.
-pub(crate) fn no_words() -> [i32; GREATEST_WORDS] {
-    [0; GREATEST_WORDS]
-}
-
-// Writes the table's rows, of which up to two are bad where it is to have bad ones.
-pub(crate) fn fill(number: u32, requests: &mut [i32]) {
-    put_words(number, numbers::narrow(rows(number) as u64 * 4), requests);
-    if has(number, BAD_ROWS) {
-        spoil(number, BAD_ROW, requests);
-        spoil(number, OTHER_BAD_ROW, requests);
+impl Table {
+    pub(crate) fn new(alloc: Global, number: u32) -> Result<Table, AllocError> {
+        let kind = Kind::of(number);
+        Ok(Table {
+            number,
+            rows: kind.rows(),
+            requests: kind.requests(alloc)?,
+            space: kind.space(),
+            room: kind.room(),
+        })
     }
 }

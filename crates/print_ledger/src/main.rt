@@ -6,13 +6,9 @@ use ledger_text::GREATEST_LEDGER_TEXT;
 use recording_rule::Ledger;
 use std::io;
 
-fn no_text() -> [u8; GREATEST_LEDGER_TEXT] {
-    [0; GREATEST_LEDGER_TEXT]
-}
-
 // Writes the ledger's text.
 fn print(rt: &impl Print, ledger: Ledger) -> io::Result<()> {
-    let mut text = no_text();
+    let mut text = arrays::filled::<u8, GREATEST_LEDGER_TEXT>(0);
     let reply = ledger_text::write_ledger(ledger, &mut text);
     rt.write_all(text_pieces::told(reply, &text))
 }

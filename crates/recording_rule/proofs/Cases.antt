@@ -9,18 +9,20 @@ use Rattle.alignment.proofs.Alignments.{allowed_says}
 use Rattle.alignment.proofs.Rounding.{down_rest}
 use Rattle.answer.specs.Answer.{done, sections_not_valid, bad_alignment, bad_allocation_kind, too_many}
 use Rattle.arena_sections.specs.Cases.{number_of}
+use Rattle.arena_sections.proofs.Cases.{allocation_not_allowed, allocation_passes, allocation_passed}
 use Rattle.arena_sections.proofs.Ordered.{valid_says}
 use Rattle.arena_sections.proofs.Room.{room_says}
-use Rattle.arena_sections.specs.Sections.{valid, refused_outcome, persistent_start, gap_below, persistent_room, persistent_done, persistent_of}
+use Rattle.arena_sections.specs.Sections.{valid, refused_outcome, done_outcome, allocation_of, persistent_start, gap_below, persistent_room, persistent_done, persistent_of}
 use Rattle.arena_sections.specs.declared.Outcome.{Outcome}
 use Rattle.arena_sections.specs.declared.Sections.{Sections}
 use Rattle.bounded.proofs.Boolean.{contrary}
 use Rattle.bounded.specs.Causes.{Gives, first_cause}
-use Rattle.bounded.proofs.Causes.{given, next, by_causes, follows, passed}
+use Rattle.bounded.proofs.Causes.{given, next, follows, passed}
 use Rattle.recording_rule.proofs.Balance.{balanced_says, used_within}
 use Rattle.recording_rule.specs.Ledger.{kind_count, greatest_count, of_kind, balanced, with_keep_of}
 use Rattle.recording_rule.specs.Recording.{kind_causes, recording_causes, recorded_of, ledger_after, recording_of}
 use Rattle.recording_rule.specs.declared.Ledger.{Ledger}
+use Rattle.recording_rule.specs.declared.RecordedAllocation.{RecordedAllocation}
 use Rattle.recording_rule.specs.declared.Recording.{Recording}
 use Rattle.recording_rule.specs.Cases.{Recordable, Recorded}
 
@@ -38,12 +40,6 @@ module _ (g : ℕ) (s : Sections) (size a : ℕ) where
       go false w p q = not_valid p (rw (p, first_cause))
       go true false p q = not_allowed p q (rw (p, q, first_cause))
       go true true p q = decided p q (rw (p, q, first_cause))
-
-  -- The room decides neither 13 nor 14.
-  by_room : let n = number_of (first_cause (persistent_room s size a) (persistent_done s size a)) in (n ≡ sections_not_valid → ⊥) × (n ≡ bad_alignment → ⊥)
-  by_room =
-      by_causes (λ (o : Outcome). (number_of o ≡ sections_not_valid → ⊥) × (number_of o ≡ bad_alignment → ⊥)) (persistent_room s size a) (persistent_done s size a)
-      (((λ e. omega arith), (λ e. omega arith)), tt) (λ n. ((λ e. omega arith), (λ e. omega arith)))
 
 -- ---- by the tests, one after the other
 
@@ -73,6 +69,14 @@ module _ (g : ℕ) (s : Sections) (l : Ledger) (kind size a : ℕ) where
       pub by_alignment : allowed g a ≡ false → refused_outcome bad_alignment s ≡ recorded_of g s l kind size a
       by_alignment w = past (given (ap not w))
 
+      -- The sections' own checks refuse: past their state it is the alignment.
+      pub by_checks : {n : ℕ} → refused_outcome n s ≡ allocation_of g s a → (n ≡ 0 → ⊥) → refused_outcome n s ≡ recorded_of g s l kind size a
+      by_checks {n} e h = go (allowed g a) refl
+        where
+          go : (w : Bool) → allowed g a ≡ w → refused_outcome n s ≡ recorded_of g s l kind size a
+          go true w = absurd (h (ap number_of e ∙ sym (allocation_passes g s a v w)))
+          go false w = ap (λ (m : ℕ). refused_outcome m s) (ap number_of e ∙ sym (allocation_not_allowed g s a v w)) ∙ by_alignment w
+
       module _ (w : allowed g a ≡ true) where
         -- No kind has the code.
         pub by_kind : kind_count ≤ kind → refused_outcome bad_allocation_kind s ≡ recorded_of g s l kind size a
@@ -92,44 +96,17 @@ module _ (g : ℕ) (s : Sections) (l : Ledger) (kind size a : ℕ) where
               go (not_allowed x y p) = contrary w y
               go (decided x y p) = p ∙ past (next (ap not w) (next (lt-leb _ _ h) (next (lt-leb _ _ m) record { is = refl })))
 
--- ---- by the number of the sections' own allocation
+-- Where the sections' own checks pass, the alignment is allowed.
+pub checks_passed : (g : ℕ) (s : Sections) (a : ℕ) → done_outcome 0 s ≡ allocation_of g s a → allowed g a ≡ true
+checks_passed g s a e = not-false (allowed g a) (allocation_passed g s a (sym (ap number_of e))).1.0
 
-module _ (g : ℕ) (s : Sections) (size a : ℕ) (o : Outcome) (is_own : o ≡ persistent_of g s size a) where
-  -- Another number than 13: the state is valid.
-  pub told_valid : (number_of o ≡ sections_not_valid → ⊥) → valid s ≡ true
-  told_valid n = go (own g s size a)
-    where
-      go : Own g s size a → valid s ≡ true
-      go (not_valid v p) = absurd (n (ap number_of (is_own ∙ p)))
-      go (not_allowed v w p) = v
-      go (decided v w p) = v
-
-  -- Another than 14 too: the alignment is allowed.
-  pub told_allowed : (number_of o ≡ sections_not_valid → ⊥) → (number_of o ≡ bad_alignment → ⊥) → allowed g a ≡ true
-  told_allowed n m = go (own g s size a)
-    where
-      go : Own g s size a → allowed g a ≡ true
-      go (not_valid v p) = absurd (n (ap number_of (is_own ∙ p)))
-      go (not_allowed v w p) = absurd (m (ap number_of (is_own ∙ p)))
-      go (decided v w p) = w
-
-  -- 14: it is not.
-  pub told_not_allowed : number_of o ≡ bad_alignment → allowed g a ≡ false
-  told_not_allowed e = go (own g s size a)
-    where
-      go : Own g s size a → allowed g a ≡ false
-      go (not_valid v p) = absurd (omega (arith, ap number_of (is_own ∙ p)))
-      go (not_allowed v w p) = w
-      go (decided v w p) = absurd ((by_room g s size a).1 (sym (ap number_of (is_own ∙ p)) ∙ e))
-
-  -- 13: the sections' own refusal stands, whatever the ledger.
-  pub told_not_valid : (l : Ledger) (kind : ℕ) → number_of o ≡ sections_not_valid → o ≡ recorded_of g s l kind size a
-  told_not_valid l kind e = is_own ∙ go (own g s size a)
-    where
-      go : Own g s size a → persistent_of g s size a ≡ recorded_of g s l kind size a
-      go (not_valid v p) = p ∙ by_state g s l kind size a v
-      go (not_allowed v w p) = absurd (omega (arith, ap number_of (is_own ∙ p)))
-      go (decided v w p) = absurd ((by_room g s size a).0 (sym (ap number_of (is_own ∙ p)) ∙ e))
+-- Past all that the ledger refuses, the sections' own outcome stands, as the code comes to each test.
+pub own_stands : (g : ℕ) (s : Sections) (l : Ledger) (kind size a : ℕ) {v b : Bool} {r : RecordedAllocation} {o : Outcome}
+    → v ≡ valid s → v ≡ true → b ≡ balanced l (s.usable - s.tail) → b ≡ true → done_outcome 0 s ≡ allocation_of g s a
+    → kind < kind_count → r ≡ of_kind l kind → r.count < greatest_count → o ≡ persistent_of g s size a → o ≡ recorded_of g s l kind size a
+own_stands g s l kind size a v vt b bt p h r m e =
+    let count = ap (λ (x : RecordedAllocation). x.count) r in
+    e ∙ by_sections g s l kind size a (sym v ∙ vt) (sym b ∙ bt) (checks_passed g s a p) h (omega (arith, count))
 
 -- ---- the ledger after it
 

@@ -1,7 +1,7 @@
 -- Law: what is replied to a sheet, and when, in document 01's words: no room, which is number 3, before anything else; `bad sheet` for a sheet whose mark,
 -- version or length is wrong; of version 2 the first bad shape with its row; else the plan, or `refused N a b need`, as the planner answers. The text
 -- stands in front of the lent bytes.
-use Rattle.std.specs.Prelude.{ℕ, ◌<◌, ◌≤◌, Bool, true, false, List, ◌++◌, ◌⊎◌, ◌≡◌, refl, ℤ, length, drop}
+use Rattle.std.specs.Prelude.{ℕ, ◌<◌, ◌≤◌, Bool, true, false, List, ◌++◌, ◌⊎◌, Some, None, ◌≡◌, refl, ℤ, length, drop}
 use Rattle.std.proofs.Common.{inl, inr, ◌∙◌, subst, arith}
 use Rattle.std.proofs.Math.Path.{sym, ap}
 use Rattle.answer.specs.Answer.{number_of as answer_number, done_with, refused_at}
@@ -27,12 +27,11 @@ use Rattle.sheet_rule.specs.Sheet.{well_formed, row_count, sheet_words, sheet_sp
 use Rattle.reply_rule.proofs.Replies.{shapes_refused, shapes_sized, table_reply, shapes_reply, bad_reply}
 use Rattle.reply_rule.specs.Reply.{table_text, reply_text, reply_of, text_after}
 use Rattle.text_pieces.proofs.Replied.{no_room, reply_stands}
-use Rattle.text_pieces.specs.declared.Reply.TheVariants.{Text, NoRoom}
 
 module _ (sheet text : List ℕ) where
   -- The reply is this text, in front of the lent bytes.
   pub record Told (words : List ℕ) : Type 0 where
-    pub reply_is : reply_of sheet (length text) ≡ Text (length words)
+    pub reply_is : reply_of sheet (length text) ≡ Some (length words)
     pub bytes_are : text_after sheet text ≡ words ++ drop (length words) text
 
   -- The request table that a sheet gives: its rows in version 1; in version 2, where no shape is bad, the rows that the shapes' sizes make.
@@ -42,7 +41,7 @@ module _ (sheet text : List ℕ) where
 
   -- What may be replied.
   pub data Outcome : Type 0 where
-    too_few_bytes : length text < greatest_text → reply_of sheet (length text) ≡ NoRoom → text_after sheet text ≡ text → Outcome
+    too_few_bytes : length text < greatest_text → reply_of sheet (length text) ≡ None → text_after sheet text ≡ text → Outcome
     bad_sheet : greatest_text ≤ length text → (Good sheet → ⊥) → Told bad_sheet_text → Outcome
     bad_shape_case : (a : ℕ) → greatest_text ≤ length text → GoodSheet sheet 2 52 → Lowest (λ r. (tensor_size (sheet_words sheet) r).number ≡ 0 → ⊥) (row_count sheet) a
         → Told (refused_text (refused_at (tensor_size (sheet_words sheet) a).number a)) → Outcome
@@ -54,7 +53,7 @@ module _ (sheet text : List ℕ) where
   told : {words : List ℕ} → greatest_text ≤ length text → words ≡ reply_text sheet → Told words
   told l e =
       let s = reply_stands greatest_text (reply_text sheet) text l record { count_is = refl; bytes_are = refl } in
-      record { reply_is = sym s.0 ∙ ap (λ (xs : List ℕ). Text (length xs)) (sym e); bytes_are = sym s.1 ∙ ap (λ (xs : List ℕ). xs ++ drop (length xs) text) (sym e) }
+      record { reply_is = sym s.0 ∙ ap (λ (xs : List ℕ). Some (length xs)) (sym e); bytes_are = sym s.1 ∙ ap (λ (xs : List ℕ). xs ++ drop (length xs) text) (sym e) }
 
   module _ (l : greatest_text ≤ length text) (t : List ℤ) (rows_t : rows t ≡ row_count sheet) (of : TableOf t) (e : table_text t (sheet_space sheet) ≡ reply_text sheet) where
     answer : Answer

@@ -1,7 +1,7 @@
 -- The reply to a request sheet (document 01): the program "prints the plan, or `refused N a b need`, or `bad sheet`". A sheet is planned as the table of
 -- its rows in its space, with room for every row; one of version 2 (document 02, order 1) as the table that its shapes' sizes make. What a sheet says
 -- (`sheet_rule`) and the text of an answer (`text_rule`) meet here alone.
-use Rattle.std.specs.Prelude.{ℕ, true, false, not, List, [], ◌∷◌, eqb, ℤ}
+use Rattle.std.specs.Prelude.{ℕ, true, false, not, List, [], ◌∷◌, eqb, ℤ, Option}
 use Rattle.answer.specs.Answer.{done}
 use Rattle.bounded.specs.Causes.{◌⇒◌, first_cause}
 use Rattle.greedy_rule.specs.Greedy.{greedy_plan}
@@ -12,7 +12,6 @@ use Rattle.request_table.specs.Table.{rows}
 use Rattle.shape_rule.specs.Sized.{sized_table, shapes_of}
 use Rattle.sheet_rule.specs.Sheet.{well_formed, version, sheet_words, sheet_space}
 use Rattle.text_pieces.specs.Replied.{reply_with, left_with}
-use Rattle.text_pieces.specs.declared.Reply.{Reply}
 
 -- What is told of a table in a space: the planner's answer with room for every row, and where it is done each row's offset.
 unfoldable pub table_text : List ℤ → ℕ → List ℕ
@@ -31,8 +30,8 @@ reply_text sheet =
     ∷ [])
     (shapes_text (sheet_words sheet) (sheet_space sheet))
 
--- The answer: no room where the lent bytes are fewer than the longest text has, tested first; else how many bytes the text has.
-abbrev pub reply_of : List ℕ → ℕ → Reply
+-- The answer: none, no room, where the lent bytes are fewer than the longest text has, tested first; else how many bytes the text has.
+abbrev pub reply_of : List ℕ → ℕ → Option ℕ
 reply_of sheet room = reply_with greatest_text (reply_text sheet) room
 
 -- The lent bytes in the end: the text in front and the rest as it was; where there is no room, all stays.

@@ -3,11 +3,14 @@
 #![tactic(auto)]
 
 ghost use Rattle.std.specs.Prelude.{◌<◌, ◌≡◌};
-ghost use Rattle.bounded.specs.First.{first_in};
+ghost use Rattle.bounded.specs.First.{found_in};
+ghost use Rattle.units.specs.Numbered.{row_of};
+ghost use Rattle.std.specs.Option.{option_map};
 ghost use Rattle.words.specs.Words.{word_at};
-ghost use Rattle.request_table.specs.Table.{rows as rows_of, word as word_of, request, good, bad_row};
+ghost use Rattle.request_table.specs.Buffers.{buffer_at};
+ghost use Rattle.request_table.specs.Table.{rows as rows_of, word as word_of, fixed_at, passes, request, good, bad_row};
 
-use request_table::{GREATEST_SPACE, ROW_WORDS, Request};
+use request_table::{Buffer, GREATEST_SPACE, ROW_WORDS, Request};
 use units::{Moment, Offset, Row};
 
 // The last moment that a row may name.
@@ -24,6 +27,16 @@ fn place_of(table: &[i32], row: Row, column: usize) -> usize
     table.len()
 }
 
+// The offset that the word at a place fixes; −1 fixes none.
+fn fixed_at(table: &[i32], at: usize) -> Option<Offset>
+    ensures { result ≡ fixed_at (word_at table.now at) }
+{
+    if words::is_minus_one(table, at) {
+        return None;
+    }
+    Some(Offset(words::natural(table, at) as u64))
+}
+
 // The row of the table; past its end, a row of zeros.
 pub fn request_at(table: &[i32], row: Row) -> Request
     ensures { result ≡ request table.now row.0 }
@@ -32,14 +45,22 @@ pub fn request_at(table: &[i32], row: Row) -> Request
     let first = words::natural(table, place_of(table, row, 1));
     let last = words::natural(table, place_of(table, row, 2));
     let at = place_of(table, row, 3);
-    let fixed = !words::is_minus_one(table, at);
-    let offset = words::natural(table, at);
+    let offset = fixed_at(table, at);
     Request {
         size,
         first: Moment(first),
         last: Moment(last),
-        fixed,
-        offset: Offset(offset as u64),
+        offset,
+    }
+}
+
+// An offset that a good row may be fixed at, or none.
+fn is_good_offset(grid: u32, offset: Option<Offset>) -> bool
+    ensures { result ≡ passes grid offset }
+{
+    match offset {
+        Some(offset) => buffers::on_grid(grid, offset) & (offset.0 <= GREATEST_SPACE as u64),
+        None => true,
     }
 }
 
@@ -49,22 +70,45 @@ fn is_good(grid: u32, request: Request) -> bool
 {
     let size = request.size <= GREATEST_SPACE;
     let life = (request.first.0 <= request.last.0) & (request.last.0 <= LAST_MOMENT);
-    let placed = buffers::on_grid(grid, request.offset)
-        & (request.offset.0 <= GREATEST_SPACE as u64);
-    size & (life & (!request.fixed | placed))
+    size & (life & is_good_offset(grid, request.offset))
 }
 
-// The lowest row that is not good, else the number of rows.
-pub fn lowest_bad_row(grid: u32, table: &[i32]) -> Row
-    ensures { result.0 ≡ first_in (bad_row grid table.now) 0 (rows_of table.now) }
-{
-    let n = table.len() / ROW_WORDS;
-    let mut row = Row(0);
-    while row.0 < n {
-        if !is_good(grid, request_at(table, row)) {
-            return row;
-        }
-        row = Row(row.0 + 1);
+// A request table as whoever plans or judges reads it: its words, and the grid that lengths and offsets go by. The bound on the rows is no invariant of it:
+// a table of any length is read, and one that is too long is refused by number 2.
+#[derive(Clone, Copy)]
+pub struct Table<'a> {
+    pub grid: u32,
+    pub words: &'a [i32],
+}
+
+impl<'a> Table<'a> {
+    // How many rows it has.
+    pub fn rows(&self) -> usize
+        ensures { result ≡ rows_of self.now.words.now }
+    {
+        self.words.len() / ROW_WORDS
     }
-    row
+
+    // The row of that number; past the end, a row of zeros.
+    pub fn request(&self, row: Row) -> Request
+        ensures { result ≡ request self.now.words.now row.0 }
+    {
+        request_at(self.words, row)
+    }
+
+    // The row's buffer at an offset.
+    pub fn buffer(&self, row: Row, offset: Offset) -> Buffer
+        ensures { result ≡ buffer_at self.now.grid self.now.words.now row.0 offset.0 }
+    {
+        buffers::buffer_at(self.grid, self.request(row), offset)
+    }
+
+    // The lowest row that is not good, if there is one.
+    pub fn lowest_bad_row(&self) -> Option<Row>
+        ensures { result ≡ option_map row_of (found_in (bad_row self.now.grid self.now.words.now) 0 (rows_of self.now.words.now)) }
+    {
+        (0..self.rows())
+            .find(|row| !is_good(self.grid, self.request(Row(*row))))
+            .map(Row)
+    }
 }

@@ -1,7 +1,8 @@
 -- What is lent on, table by table, as the code comes to it: the planner's offsets, the requests of good shapes and the words of a sheet.
-use Rattle.std.specs.Prelude.{ℕ, ◌*◌, ◌%◌, ◌≤◌, List, ◌++◌, ◌≡◌, ℤ, length, take, drop}
+use Rattle.std.specs.Prelude.{ℕ, ◌*◌, ◌%◌, ◌≤◌, List, ◌++◌, Option, ◌≡◌, ℤ, pos, length, take, drop, replicate}
 use Rattle.std.proofs.Common.{sym, ◌∙◌, ap, ap₂, arith, length-append, take_at}
 use Rattle.std.proofs.Math.Seq.{length-take-le}
+use Rattle.std.proofs.lemmas.List.{length-replicate}
 use Rattle.answer.specs.Answer.{number_of}
 use Rattle.answer.specs.declared.Answer.{Answer}
 use Rattle.greedy_rule.specs.Plan.{plan_of, planned_table}
@@ -16,12 +17,15 @@ use Rattle.sheet_rule.proofs.GoodSheets.{well_says}
 use Rattle.sheet_rule.proofs.ReadSheets.{Table, good_rows}
 use Rattle.sheet_rule.specs.Sheet.{row_count, word_count, sheet_words, sheet_space, words_read}
 use Rattle.text_pieces.specs.Replied.{Stands}
-use Rattle.text_pieces.specs.declared.Reply.TheVariants.{Text}
 use Rattle.text_pieces.proofs.Replied.{stands_as, reply_stands}
 use Rattle.text_rule.specs.Text.{answer_text, offset_in, greatest_text}
 use Rattle.word_lists.proofs.WordsComeBack.{words_length}
 use Rattle.reply_rule.proofs.Replies.{planned_told}
 use Rattle.reply_rule.specs.Reply.{table_text, reply_text, reply_of, text_after}
+
+-- A table that is filled has so many entries.
+pub as_filled : {n : ℕ} {zeros : List ℤ} → zeros ≡ replicate n (pos 0) → n ≡ length zeros
+as_filled {n} {zeros} e = sym (ap length e ∙ length-replicate n (pos 0))
 
 -- ---- the planner's offsets
 
@@ -83,6 +87,6 @@ module _ (sheet : List ℕ) (zeros words : List ℤ) {number n space : ℕ} (s :
   few_rows = (well_says sheet s.well).good.few
 
   -- What is told of them, and is the sheet's text, is the reply.
-  pub words_told : (text : List ℤ → ℕ → List ℕ) → text (sheet_words sheet) (sheet_space sheet) ≡ reply_text sheet → {before after : List ℕ} {count : ℕ}
-      → greatest_text ≤ length before → Stands (text (take n words) space) before after count → (Text count ≡ reply_of sheet (length before)) × (after ≡ text_after sheet before)
+  pub words_told : (text : List ℤ → ℕ → List ℕ) → text (sheet_words sheet) (sheet_space sheet) ≡ reply_text sheet → {before after : List ℕ} {count : Option ℕ}
+      → greatest_text ≤ length before → Stands (text (take n words) space) before after count → (count ≡ reply_of sheet (length before)) × (after ≡ text_after sheet before)
   words_told text e roomy w = reply_stands greatest_text (reply_text sheet) _ roomy (stands_as (ap₂ text words_lent s.spaced ∙ e) w)

@@ -1,5 +1,5 @@
 -- What the text's own functions write, where there is room for any text, stands in the lent bytes.
-use Prim.Native.Nat.{ℕ, ◌≤◌}
+use Rattle.std.specs.Prelude.{ℕ, ◌≤◌, Option}
 use mathlib.Core.Bool.{true}
 use mathlib.Core.List.{List}
 use mathlib.Core.Path.{◌≡◌, ◌∙◌}
@@ -12,7 +12,7 @@ use Rattle.request_table.specs.Limits.{greatest_rows}
 use Rattle.text_rule.specs.Text.{greatest_text}
 
 -- Where there is room, what is written stands.
-pub written : {n room count : ℕ} {text before after : List ℕ} → n ≤ greatest_rows → greatest_text ≤ room
+pub written : {n room : ℕ} {count : Option ℕ} {text before after : List ℕ} → n ≤ greatest_rows → greatest_text ≤ room
     → count ≡ written_length (has_room n room) text → after ≡ written_into (has_room n room) text before → Stands text before after count
 unfolding has_room written_length written_into
 written {n} {room} few roomy p q =

@@ -11,18 +11,17 @@ pub const GREATEST_ROWS: usize = 1024;
 // The greatest size, fixed offset and space.
 pub const GREATEST_SPACE: u32 = 16777216;
 
-// One row of the table. The offset of a row that is not fixed says nothing.
-#[derive(Clone, Copy)]
+// One row of the table. A fixed row has its offset, any other has none.
+#[derive(Clone, Copy, PartialEq, Eq)]
 pub struct Request {
     pub size: u32,
     pub first: Moment,
     pub last: Moment,
-    pub fixed: bool,
-    pub offset: Offset,
+    pub offset: Option<Offset>,
 }
 
 // A row at an offset: document 01's span, with the row's life.
-#[derive(Clone, Copy)]
+#[derive(Clone, Copy, PartialEq, Eq)]
 pub struct Buffer {
     pub first: Moment,
     pub last: Moment,

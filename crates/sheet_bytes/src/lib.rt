@@ -20,9 +20,9 @@ const SPACE_PLACE: usize = 7;
 // The head has this many bytes.
 const HEAD_BYTES: usize = 11;
 // The version whose rows are requests, and the one whose rows are shapes.
-const REQUEST_VERSION: u32 = 1;
+const REQUEST_VERSION: u16 = 1;
 
-const SHAPE_VERSION: u32 = 2;
+const SHAPE_VERSION: u16 = 2;
 // The words of the longest table.
 pub const SHEET_WORDS: usize = GREATEST_ROWS * SHAPE_WORDS;
 // No sheet has more bytes than this.
@@ -32,15 +32,13 @@ pub const GREATEST_SHEET: usize = HEAD_BYTES + SHEET_WORDS * WORD_BYTES;
 fn is_marked(sheet: &[u8]) -> bool
     ensures { result ≡ marked sheet.now }
 {
-    if sheet.len() < VERSION_PLACE {
-        return false;
-    }
-    (sheet[0] == b'A') & (sheet[1] == b'R') & (sheet[2] == b'N')
+    sheet.starts_with(b"ARN")
 }
 
-// How many words a row has; none for a version that there is not.
+// How many words a row has. A version that there is not has 0, which is no number of words of a form: `row_words` and `well_formed` of `sheet_rule` say so,
+// and an option would only be turned into that 0 for them.
 #[tactic(auto, using(sheet_rule::proofs::GoodSheets::request_words, sheet_rule::proofs::GoodSheets::shape_words, sheet_rule::proofs::GoodSheets::no_words))]
-fn row_words(version: u32) -> usize
+fn row_words(version: u16) -> usize
     ensures { result ≡ row_words version }
 {
     match version {
@@ -71,12 +69,12 @@ fn read_rows(sheet: &[u8], count: usize, words: &mut [i32])
 }
 
 // Reads a sheet: the rows' words stand in the first entries of `words`, and the rest stays; a bad sheet changes nothing.
-pub fn read(sheet: &[u8], words: &mut [i32; SHEET_WORDS]) -> Sheet
+pub fn read(sheet: &[u8], words: &mut [i32; SHEET_WORDS]) -> Option<Sheet>
     ensures sheet { result ≡ sheet_of sheet.now }
     ensures table { words.new ≡ words_read sheet.now words.old }
 {
     if !is_well_formed(sheet) {
-        return Sheet::Bad;
+        return None;
     }
     let version = word_bytes::unsigned16(sheet, VERSION_PLACE);
     let rows = word_bytes::unsigned16(sheet, ROWS_PLACE) as usize;
@@ -84,7 +82,7 @@ pub fn read(sheet: &[u8], words: &mut [i32; SHEET_WORDS]) -> Sheet
     let space = word_bytes::unsigned32(sheet, SPACE_PLACE);
     read_rows(sheet, count, words);
     if version == REQUEST_VERSION {
-        return Sheet::Requests(count, space);
+        return Some(Sheet::Requests(count, space));
     }
-    Sheet::Shapes(count, space)
+    Some(Sheet::Shapes(count, space))
 }

@@ -1,5 +1,5 @@
 -- What a sheet is read as, its table and its space or nothing, and what reading leaves in the lent table.
-use Rattle.std.specs.Prelude.{ℕ, ◌*◌, ◌%◌, Bool, true, false, not, List, ◌++◌, ◌⊎◌, ◌≡◌, refl, ℤ, length, drop}
+use Rattle.std.specs.Prelude.{ℕ, ◌*◌, ◌%◌, Bool, true, false, not, List, ◌++◌, ◌⊎◌, ◌≡◌, refl, Option, Some, None, ℤ, length, drop}
 use Rattle.std.proofs.Common.{inl, inr, sym, ◌∙◌, ap, subst, arith, eq-eqb, ne_eqb}
 use Rattle.bounded.proofs.Boolean.{same_or_not}
 use Rattle.bounded.specs.Causes.{Gives}
@@ -9,24 +9,24 @@ use Rattle.shape_rule.specs.ShapeTable.{shape_count}
 use Rattle.word_lists.proofs.WordsComeBack.{words_length}
 use Rattle.sheet_rule.specs.Sheet.{version, row_count, sheet_space, row_words, word_count, sheet_words, well_formed, sheet_causes, sheet_of, words_read}
 use Rattle.sheet_rule.specs.declared.Sheet.{Sheet}
-use Rattle.sheet_rule.specs.declared.Sheet.TheVariants.{Requests, Shapes, Bad}
+use Rattle.sheet_rule.specs.declared.Sheet.TheVariants.{Requests, Shapes}
 use Rattle.sheet_rule.proofs.GoodSheets.{request_words, shape_words, second}
 
 module _ (sheet : List ℕ) where
-  given_sheet : {x : Sheet} → Gives (sheet_causes sheet) (Shapes (word_count sheet) (sheet_space sheet)) x → x ≡ sheet_of sheet
+  given_sheet : {x : Option Sheet} → Gives (sheet_causes sheet) (Some (Shapes (word_count sheet) (sheet_space sheet))) x → x ≡ sheet_of sheet
   unfolding sheet_of
   given_sheet g = g.is
 
   -- A good sheet of version 1 is read as its requests and its space,
-  pub requests_read : well_formed sheet ≡ true → version sheet ≡ 1 → Requests (word_count sheet) (sheet_space sheet) ≡ sheet_of sheet
+  pub requests_read : well_formed sheet ≡ true → version sheet ≡ 1 → Some (Requests (word_count sheet) (sheet_space sheet)) ≡ sheet_of sheet
   requests_read e v = given_sheet (next (ap not e) (given (eq-eqb _ _ v)))
 
   -- of the other as its shapes and its space,
-  pub shapes_read : well_formed sheet ≡ true → (version sheet ≡ 1 → ⊥) → Shapes (word_count sheet) (sheet_space sheet) ≡ sheet_of sheet
+  pub shapes_read : well_formed sheet ≡ true → (version sheet ≡ 1 → ⊥) → Some (Shapes (word_count sheet) (sheet_space sheet)) ≡ sheet_of sheet
   shapes_read e v = given_sheet (next (ap not e) (next (ne_eqb _ _ v) none_left))
 
   -- any other as bad.
-  pub bad_read : well_formed sheet ≡ false → Bad ≡ sheet_of sheet
+  pub bad_read : well_formed sheet ≡ false → None ≡ sheet_of sheet
   bad_read e = given_sheet (given (ap not e))
 
   -- The rows of a good sheet are put in front of the table,
@@ -52,10 +52,10 @@ module _ (sheet : List ℕ) where
   shapes_are v = let w = words_are (shape_words v) in (omega (arith, w), omega (arith, w))
 
   -- What a sheet is read as tells what it is.
-  pub data ReadAs : Sheet → Type 0 where
-    bad : well_formed sheet ≡ false → ReadAs Bad
-    of_requests : well_formed sheet ≡ true → version sheet ≡ 1 → ReadAs (Requests (word_count sheet) (sheet_space sheet))
-    of_shapes : well_formed sheet ≡ true → version sheet ≡ 2 → ReadAs (Shapes (word_count sheet) (sheet_space sheet))
+  pub data ReadAs : Option Sheet → Type 0 where
+    bad : well_formed sheet ≡ false → ReadAs None
+    of_requests : well_formed sheet ≡ true → version sheet ≡ 1 → ReadAs (Some (Requests (word_count sheet) (sheet_space sheet)))
+    of_shapes : well_formed sheet ≡ true → version sheet ≡ 2 → ReadAs (Some (Shapes (word_count sheet) (sheet_space sheet)))
 
   -- So every sheet is read.
   pub read_as : ReadAs (sheet_of sheet)
@@ -74,13 +74,13 @@ module _ (sheet : List ℕ) where
     pub spaced : space ≡ sheet_space sheet
 
   -- Requests are those of version 1,
-  pub requests_say : {count space : ℕ} → ReadAs (Requests count space) → Table 1 count space
+  pub requests_say : {count space : ℕ} → ReadAs (Some (Requests count space)) → Table 1 count space
   requests_say (of_requests w v) = record { well = w; of_version = v; counted = refl; spaced = refl }
 
   -- shapes those of version 2,
-  pub shapes_say : {count space : ℕ} → ReadAs (Shapes count space) → Table 2 count space
+  pub shapes_say : {count space : ℕ} → ReadAs (Some (Shapes count space)) → Table 2 count space
   shapes_say (of_shapes w v) = record { well = w; of_version = v; counted = refl; spaced = refl }
 
   -- and where nothing was read the sheet is not well formed.
-  pub bad_says : ReadAs Bad → well_formed sheet ≡ false
+  pub bad_says : ReadAs None → well_formed sheet ≡ false
   bad_says (bad w) = w

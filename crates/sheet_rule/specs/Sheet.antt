@@ -1,13 +1,13 @@
 -- The request sheet (document 01): "Mark ARN (41 52 4E), version 1 as 16 bits, row count as 16 bits, space as 32 bits, then the rows; all little-endian."
 -- Document 02, order 1, adds "A second form of the request sheet, version 2", with shapes for rows: what follows is over both. A sheet is the list of its
 -- bytes. All is total: what stands past its end reads as 0.
-use Rattle.std.specs.Prelude.{ℕ, ◌+◌, ◌*◌, Bool, true, false, not, ◌&&◌, List, [], ◌∷◌, ◌++◌, leb, eqb, ℤ, length, get_or, drop}
+use Rattle.std.specs.Prelude.{ℕ, ◌+◌, ◌*◌, Bool, true, false, not, ◌&&◌, List, [], ◌∷◌, ◌++◌, Option, Some, None, leb, eqb, ℤ, length, get_or, drop}
 use Rattle.bounded.specs.Causes.{Cause, ◌⇒◌, first_cause}
 use Rattle.request_table.specs.Limits.{greatest_rows}
 use Rattle.word_bytes.specs.Bytes.{little_endian}
 use Rattle.word_lists.specs.WordLists.{words_from}
 use Rattle.sheet_rule.specs.declared.Sheet.{Sheet}
-use Rattle.sheet_rule.specs.declared.Sheet.TheVariants.{Requests, Shapes, Bad}
+use Rattle.sheet_rule.specs.declared.Sheet.TheVariants.{Requests, Shapes}
 
 -- "Mark ARN (41 52 4E)",
 unfoldable pub marked : List ℕ → Bool
@@ -49,12 +49,12 @@ well_formed sheet =
     && (eqb (length sheet) (sheet_bytes (version sheet) (row_count sheet)) && leb (length sheet) (sheet_bytes (version sheet) greatest_rows))
 
 -- A bad sheet, and one of requests.
-abbrev pub sheet_causes : List ℕ → List (Cause Sheet)
-sheet_causes sheet = (not (well_formed sheet) ⇒ Bad) ∷ (eqb (version sheet) 1 ⇒ Requests (word_count sheet) (sheet_space sheet)) ∷ []
+abbrev pub sheet_causes : List ℕ → List (Cause (Option Sheet))
+sheet_causes sheet = (not (well_formed sheet) ⇒ None) ∷ (eqb (version sheet) 1 ⇒ Some (Requests (word_count sheet) (sheet_space sheet))) ∷ []
 
 -- What is read: nothing from a bad sheet; else so many words of requests, or of shapes, and a space.
-unfoldable pub sheet_of : List ℕ → Sheet
-sheet_of sheet = first_cause (sheet_causes sheet) (Shapes (word_count sheet) (sheet_space sheet))
+unfoldable pub sheet_of : List ℕ → Option Sheet
+sheet_of sheet = first_cause (sheet_causes sheet) (Some (Shapes (word_count sheet) (sheet_space sheet)))
 
 -- The lent table in the end: the rows in front and the rest as it was; a bad sheet leaves it as it was.
 unfoldable pub words_read : List ℕ → List ℤ → List ℤ

@@ -19,7 +19,7 @@ use Rattle.lifetime_rule.proofs.GoodUses.{tests}
 use Rattle.lifetime_rule.specs.Lifetimes.{named, is_output, first_of, last_of, unnamed, lets, readable, too_early, lifetime_word}
 use Rattle.lifetime_rule.specs.Uses.{reads, writes, model_input, greatest_operators, greatest_tensors, count, use_at, good}
 use Rattle.lifetime_rule.specs.declared.Use.{Use}
-use Rattle.tensor_lifetimes.specs.Gathered.{named_so_far, output_so_far, readable_so_far, lifetime_so_far, lifetime_in, HoldsLifetimes, FewTensors, StorableLifetimes, unnamed_in, early_in, stored_word}
+use Rattle.tensor_lifetimes.specs.Gathered.{named_so_far, output_so_far, readable_so_far, lifetime_so_far, HoldsLifetimes, StorableLifetimes, unnamed_in, reads_early, early_in, stored_word}
 use Rattle.tensor_lifetimes.proofs.LifetimeEnds.{end_above, last_before}
 use Rattle.tensor_lifetimes.proofs.OneUse.{known_high}
 use Rattle.known_lifetimes.specs.declared.Lifetime.{Lifetime}
@@ -61,9 +61,8 @@ readable_from operators u t m l = go (lt_or_le m (first_in (readable u t) 0 oper
     go (inr h) = le-ltb _ _ h ∙ sym (ap not (readable_later u t _ m h ((first_is (readable u t) 0 operators zero-le).at (omega arith))))
 
 -- The test of a use that reads too early, on the use that was read.
-pub early_test : (u : List ℤ) (gathered : List Lifetime) (k : ℕ) {x : Use} → x ≡ use_at u k
-    → early_in u gathered k ≡ eqb x.role reads && ltb x.operator.0 (lifetime_in gathered x.tensor.0).readable.0
-early_test u gathered k e = ap (λ (x : Use). eqb x.role reads && ltb x.operator.0 (lifetime_in gathered x.tensor.0).readable.0) (sym e)
+pub early_test : (u : List ℤ) (gathered : List Lifetime) (k : ℕ) {x : Use} → x ≡ use_at u k → reads_early gathered x ≡ early_in u gathered k
+early_test u gathered k e = ap (reads_early gathered) e
 
 module _ {operators : ℕ} {u : List ℤ} {gathered : List Lifetime} (h : HoldsLifetimes operators u gathered) where
   -- No operator names the tensor.
@@ -107,7 +106,3 @@ module _ {operators : ℕ} {u : List ℤ} {gathered : List Lifetime} (h : HoldsL
         first_small = λ t l. omega (arith, ap (λ (x : Lifetime). x.first.0) (h.each t (omega arith)), (known_high operators u (count u) t).0);
         end_small = λ t l. omega (arith, ap (λ (x : Lifetime). x.end.0) (h.each t (omega arith)), (known_high operators u (count u) t).1);
       }
-
--- Every use of a good list names a tensor within the limit.
-pub few_tensors : (operators tensors : ℕ) (u : List ℤ) → tensors ≤ greatest_tensors → EachGood operators tensors u → FewTensors u
-few_tensors operators tensors u few g = record { each = λ k l. omega (arith, (tests operators tensors (use_at u k) (g.each k l)).tensor) }

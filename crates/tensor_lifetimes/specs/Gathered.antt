@@ -6,6 +6,7 @@ use Rattle.bounded.specs.TwoEach.{two_each}
 use Rattle.lifetime_rule.specs.Answers.{EachGood}
 use Rattle.lifetime_rule.specs.Lifetimes.{names, gives_out, lets}
 use Rattle.lifetime_rule.specs.Uses.{reads, greatest_operators, greatest_tensors, count, use_at}
+use Rattle.lifetime_rule.specs.declared.Use.{Use}
 use Rattle.known_lifetimes.specs.declared.Lifetime.{Lifetime}
 
 -- Operator m names tensor t in one of the first j uses.
@@ -52,10 +53,6 @@ pub record GoodList (operators : ℕ) (u : List ℤ) : Type 0 where
 pub record HoldsLifetimes (operators : ℕ) (u : List ℤ) (gathered : List Lifetime) : Type 0 where
   pub each : (t : ℕ) → t < greatest_tensors → lifetime_in gathered t ≡ lifetime_so_far operators u (count u) t
 
--- Every use names a tensor within the limit.
-pub record FewTensors (u : List ℤ) : Type 0 where
-  pub each : (k : ℕ) → k < count u → (use_at u k).tensor.0 < greatest_tensors
-
 -- The lives of so many tensors can be stored: each has a last moment, and the moments are signed words.
 pub record StorableLifetimes (tensors : ℕ) (gathered : List Lifetime) : Type 0 where
   pub ended : (t : ℕ) → t < tensors → 0 < (lifetime_in gathered t).end.0
@@ -67,8 +64,12 @@ abbrev pub unnamed_in : ℕ → List Lifetime → ℕ → Bool
 unnamed_in operators gathered t = leb operators (lifetime_in gathered t).first.0
 
 -- By the array, the use reads a tensor that its operator may not read.
+abbrev pub reads_early : List Lifetime → Use → Bool
+reads_early gathered x = eqb x.role reads && ltb x.operator.0 (lifetime_in gathered x.tensor.0).readable.0
+
+-- So does the use of that number.
 abbrev pub early_in : List ℤ → List Lifetime → ℕ → Bool
-early_in u gathered k = eqb (use_at u k).role reads && ltb (use_at u k).operator.0 (lifetime_in gathered (use_at u k).tensor.0).readable.0
+early_in u gathered k = reads_early gathered (use_at u k)
 
 -- The entries of a table of lifetimes, from the array.
 abbrev pub stored_word : List Lifetime → ℕ → ℤ

@@ -1,7 +1,7 @@
 -- The answer as the code comes to it: the number of dimensions and the code, a dimension below 0, then the byte size; and what one dimension more adds.
-use Rattle.std.specs.Prelude.{ℕ, zero, suc, ◌+◌, ◌*◌, ◌<◌, ◌≤◌, Bool, true, false, ◌||◌, ◌≡◌, ℤ, pos, length, take}
-use Rattle.std.proofs.Math.Bool.{or-false, or-true, or_assoc}
-use Rattle.std.proofs.Common.{true≢false, ⊎_elim, sym, ◌∙◌, ap, one-mul, mul-one, mul_assoc, le_of_suc-le-suc, add-one, arith, le-ltb, ne_eqb, take-suc}
+use Rattle.std.specs.Prelude.{ℕ, zero, suc, ◌*◌, ◌<◌, ◌≤◌, Bool, true, ◌||◌, ◌≡◌, ℤ, pos, length}
+use Rattle.std.proofs.Math.Bool.{or-true}
+use Rattle.std.proofs.Common.{true≢false, ⊎_elim, sym, ◌∙◌, ap, one-mul, mul-one, mul_assoc, le_of_suc-le-suc, arith, le-ltb, ne_eqb}
 use mathlib.Core.List.{List, [], ◌∷◌, ◌++◌, map, map-append, prod, prod-append}
 use Rattle.std.proofs.Math.Path.{refl}
 use Rattle.std.specs.Int.Signed.{lt_z}
@@ -42,22 +42,13 @@ pub no_elements : elements [] ≡ 1
 unfolding elements prod
 no_elements = refl
 
--- and none of them is below 0.
-pub none_negative : has_negative [] ≡ false
-unfolding has_negative
-none_negative = refl
-
-elements_behind : (shape : List ℤ) (z : ℤ) → elements (shape ++ (z ∷ [])) ≡ elements shape * natural z
+-- and one dimension more multiplies them.
+pub elements_behind : (shape : List ℤ) (z : ℤ) → elements (shape ++ (z ∷ [])) ≡ elements shape * natural z
 unfolding elements prod
 elements_behind shape z =
     ap (prod ◌*◌ 1) (map-append natural shape (z ∷ []))
     ∙ prod-append ◌*◌ 1 one-mul mul_assoc (map natural shape) (natural z ∷ [])
     ∙ ap (λ (n : ℕ). prod ◌*◌ 1 (map natural shape) * n) (mul-one (natural z))
-
-negative_behind : (shape : List ℤ) (z : ℤ) → has_negative (shape ++ (z ∷ [])) ≡ has_negative shape || lt_z z (pos 0)
-unfolding has_negative
-negative_behind [] z = or-false (lt_z z (pos 0))
-negative_behind (x ∷ xs) z = ap (λ (b : Bool). lt_z x (pos 0) || b) (negative_behind xs z) ∙ sym (or_assoc (lt_z x (pos 0)) (has_negative xs) (lt_z z (pos 0)))
 
 -- A dimension below 0 is seen,
 pub negative_seen : (shape : List ℤ) (k : ℕ) → k < length shape → lt_z (word_at shape k) (pos 0) ≡ true → has_negative shape ≡ true
@@ -71,15 +62,3 @@ pub negative_stands : (shape : List ℤ) → has_negative shape ≡ true → (k 
 unfolding has_negative
 negative_stands [] e = absurd (true≢false (sym e))
 negative_stands (x ∷ xs) e = ⊎_elim (λ h. (0, omega arith, h)) (λ h. let r = negative_stands xs h in (suc r.0, omega (arith, r.1), r.2)) (either (lt_z x (pos 0)) (has_negative xs) e)
-
-module _ (shape : List ℤ) (k : ℕ) (l : k < length shape) where
-  one_more : take (k + 1) shape ≡ take k shape ++ (word_at shape k ∷ [])
-  one_more = rw add-one (take-suc shape k (pos 0) l)
-
-  -- The elements are multiplied by it,
-  pub elements_more : elements (take (k + 1) shape) ≡ elements (take k shape) * natural (word_at shape k)
-  elements_more = ap elements one_more ∙ elements_behind (take k shape) (word_at shape k)
-
-  -- and it may be below 0.
-  pub negative_more : has_negative (take (k + 1) shape) ≡ has_negative (take k shape) || lt_z (word_at shape k) (pos 0)
-  negative_more = ap has_negative one_more ∙ negative_behind (take k shape) (word_at shape k)

@@ -1,11 +1,12 @@
 -- Laws of the definitions of specs/Put.antt.
 use Rattle.std.specs.Prelude.{ℕ, suc, ◌+◌, ◌-◌, ◌≤◌, ◌<◌, true, false, List, [], ◌∷◌, ◌++◌, ◌≡◌, refl, leb, get_or, set, take, drop}
-use Rattle.std.proofs.Common.{sym, ap, ◌∙◌, add-zero, zero-add, add-one, arith, length-append, take-suc}
+use Rattle.std.proofs.Common.{sym, ap, ◌∙◌, add-zero, zero-add, add-one, arith, length-append, take-suc, drop-drop, append_assoc}
 use borrow.Author.Tests.{leb-true, le-leb, lt-leb}
 use Rattle.std.proofs.Math.ListN.{length}
 use Rattle.std.proofs.lemmas.List.Edits.{sets, sets-eq}
 use Rattle.std.proofs.Math.Seq.{length-sets, take-length}
 use Rattle.bounded.proofs.Boolean.{same_test}
+use borrow.Rule.Slice.PartMut.{put_mid}
 use Rattle.text_pieces.specs.Pieces.{lines_below}
 use Rattle.text_pieces.proofs.Pieces.{no_lines}
 use Rattle.text_pieces.specs.Put.{Chain, Put, Room, bytes_with, end_with, first, has_room, more}
@@ -107,3 +108,7 @@ room_by_rest bytes at long l =
 pub no_room : (bytes at long : ℕ) → bytes < long → false ≡ has_room bytes at long
 unfolding has_room
 no_room bytes at long l = sym (lt-leb (at + long) bytes (omega arith))
+
+-- What the code writes over the bytes at a place is what was put there.
+pub put_over : (t p u : List ℕ) (at k : ℕ) → u ≡ p → k ≡ length p → at + length p ≤ length t → put_mid at k t u ≡ sets t at p
+put_over t p u at k e q l = rw (e, q, sets-eq p t at l, drop-drop (length p) at t) (sym (append_assoc (take at t) p (drop (at + length p) t)))

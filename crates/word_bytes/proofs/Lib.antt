@@ -1,3 +1,4 @@
+pub mod Casts
 pub mod Turned
 pub mod BytesComeBack
 pub mod BytesExamples

@@ -1,2 +1,3 @@
+pub mod Stopped
 pub mod Turns
 pub mod WordsComeBack

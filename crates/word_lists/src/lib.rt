@@ -9,34 +9,26 @@ ghost use Rattle.word_lists.specs.WordLists.{words_from, with_words};
 // So many bytes are a word.
 pub const WORD_BYTES: usize = 4;
 
-// The word of that number. The number is compared with the words that there are, since four times it may not fit.
+// The word of that number. Where four times the number does not fit, the greatest place stands for it, which is outside every slice as well.
 fn word_of(bytes: &[u8], number: usize) -> i32
     ensures { result ≡ word_of bytes.now (number * 4) }
 {
-    if bytes.len() / WORD_BYTES < number {
-        return 0;
-    }
-    word_bytes::word(bytes, number * WORD_BYTES)
+    word_bytes::word(bytes, number.saturating_mul(WORD_BYTES))
 }
 
 // Sets the word of that number.
 fn put_word_of(bytes: &mut [u8], number: usize, word: i32)
     ensures { bytes.new ≡ with_word bytes.old (number * 4) word }
 {
-    if bytes.len() / WORD_BYTES < number {
-        return;
-    }
-    stored_words::put_word(bytes, number * WORD_BYTES, word);
+    stored_words::put_word(bytes, number.saturating_mul(WORD_BYTES), word);
 }
 
 // Fills a table with the words of the bytes.
 pub fn read_words(bytes: &[u8], table: &mut [i32])
     ensures { table.new ≡ words_from bytes.now 0 (length table.old) }
 {
-    let mut number = 0;
-    while number < table.len() {
-        table[number] = word_of(bytes, number);
-        number += 1;
+    for (number, entry) in table.iter_mut().enumerate() {
+        *entry = word_of(bytes, number);
     }
 }
 
@@ -44,9 +36,7 @@ pub fn read_words(bytes: &[u8], table: &mut [i32])
 pub fn write_words(table: &[i32], bytes: &mut [u8])
     ensures { bytes.new ≡ with_words bytes.old 0 table.now }
 {
-    let mut number = 0;
-    while number < table.len() {
-        put_word_of(bytes, number, table[number]);
-        number += 1;
+    for (number, word) in table.iter().enumerate() {
+        put_word_of(bytes, number, *word);
     }
 }

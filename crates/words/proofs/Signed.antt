@@ -1,39 +1,33 @@
 -- What the tests on a signed word say, by its sign. A signed local holds its bits, so a need speaks of `to_z w32 (of_z w32 x)`, which `read` turns
 -- into x; `h : mag x < 2 ^ 31` is what reading an element of a `&[i32]` gives.
-use Prim.Native.Nat.{suc, ◌-◌, ◌<◌, ◌^◌}
-use mathlib.Core.Bool.{Bool, true, false, true≢false}
+use Prim.Native.Nat.{ℕ, suc, ◌-◌, ◌<◌, ◌^◌}
+use mathlib.Core.Bool.{Bool, true, false}
 use mathlib.Core.Path.{◌≡◌, refl}
 use native.Mathlib.Omega.{arith}
 use borrow.Author.Rules.{sfits_of}
-use borrow.Author.Tests.{eq-eqb, ne_eqb, eqb-true, eqb-false, ltb-true}
-use lib.Dec.{T, eqb}
+use borrow.Author.Tests.{eq-eqb, ne_eqb, eqb-true, eqb-false}
+use lib.Dec.{eqb}
 use lib.IntN.{ℤ, pos, negsuc, nat_abs}
-use lib.Signed.{lt_z, non_neg, mag}
+use Rattle.std.specs.Prelude.{Result, Ok, Err}
+use Rattle.std.specs.Result.{OkIff, result_unwrap_or}
+use Rattle.std.specs.Int.{FitsUnsignedBits}
+use lib.Signed.{mag}
 use mir.Facts.{to_z-of_z}
 use mir.Syntax.{w32}
-use mir.Val.{of_z, to_z, Fits}
+use mir.Val.{of_z, to_z}
 use Rattle.words.specs.Words.{natural, is_minus_one}
 
 -- A word that was read is itself.
 pub read : (x : ℤ) → mag x < 2 ^ 31 → to_z w32 (of_z w32 x) ≡ x
 read x h = to_z-of_z {w = w32} (sfits_of h)
 
--- A negative word stands above every limit.
-pub negative : (x : ℤ) → lt_z x (pos 0) ≡ true → 4294967295 ≡ natural x
+-- A word that converts is its own natural number; any other stands above every limit.
+pub tried : {E : Type 0} (x : ℤ) (r : Result ℕ E) → mag x < 2 ^ 31 → OkIff r (FitsUnsignedBits 32 x) (nat_abs x) → result_unwrap_or r 4294967295 ≡ natural x
 unfolding natural
-negative (pos n) e = absurd (omega (arith, ltb-true n 0 e))
-negative (negsuc n) e = refl
-
--- Any other is its own natural number,
-pub itself : (x : ℤ) → lt_z x (pos 0) ≡ false → nat_abs x ≡ natural x
-unfolding natural
-itself (pos n) e = refl
-itself (negsuc n) e = absurd (true≢false e)
-
--- and may be cast to a `u32`.
-pub castable : (x : ℤ) → mag x < 2 ^ 31 → lt_z x (pos 0) ≡ false → T (non_neg x) × Fits w32 (nat_abs x)
-castable (pos n) h e = (tt, omega arith)
-castable (negsuc n) h e = absurd (true≢false e)
+tried (pos n) (Ok m) l h = h.1
+tried (pos n) (Err e) l h = absurd (h (omega arith))
+tried (negsuc n) (Ok m) l h = absurd h.0
+tried (negsuc n) (Err e) l h = refl
 
 -- The bits are those of −1 exactly where the word is.
 pub minus_one : (x : ℤ) → mag x < 2 ^ 31 → eqb (of_z w32 x) 4294967295 ≡ is_minus_one x

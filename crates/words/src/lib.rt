@@ -6,38 +6,31 @@ ghost use Rattle.std.specs.Prelude.{◌≡◌, pos};
 ghost use Rattle.std.specs.Int.Signed.{lt_z};
 ghost use Rattle.words.specs.Words.{word_at, natural as natural_of, is_minus_one};
 
-// The word as a natural number; a negative one stands as 4,294,967,295, which is above every limit.
+// The word at a place; outside the table, 0.
+fn word_at(table: &[i32], at: usize) -> i32
+    ensures { result ≡ word_at table.now at }
+{
+    table.get(at).copied().unwrap_or(0)
+}
+
+// The word as a natural number; a negative one stands as 4,294,967,295, which is above every limit. An option would be turned
+// into that number again at each limit: the definitions of rows, touches and uses go by it.
 pub fn natural(table: &[i32], at: usize) -> u32
     ensures { result ≡ natural_of (word_at table.now at) }
 {
-    if at < table.len() {
-        let word = table[at];
-        if word < 0 {
-            return 4294967295;
-        }
-        return word as u32;
-    }
-    0
+    u32::try_from(word_at(table, at)).unwrap_or(u32::MAX)
 }
 
 // Whether the word is -1.
 pub fn is_minus_one(table: &[i32], at: usize) -> bool
     ensures { result ≡ is_minus_one (word_at table.now at) }
 {
-    if at < table.len() {
-        let word = table[at];
-        return word == -1;
-    }
-    false
+    word_at(table, at) == -1
 }
 
 // Whether the word is below 0.
 pub fn is_negative(table: &[i32], at: usize) -> bool
     ensures { result ≡ lt_z (word_at table.now at) (pos 0) }
 {
-    if table.len() <= at {
-        return false;
-    }
-    let word = table[at];
-    word < 0
+    word_at(table, at) < 0
 }

@@ -1,40 +1,30 @@
 -- `access_script::judge` meets its contract: a refusal of the lengths stands, then one of the inspector, and past both the touches decide.
-use mathlib.Core.Path.{sym, ◌∙◌, ap}
+use Rattle.std.proofs.Common.{sym, ◌∙◌, ap, rules}
+use Rattle.std.specs.Prelude.{◌≡◌, Err}
 use Rattle.answer.specs.Answer.{number_of}
-use Rattle.access_rule.specs.Answers.{Sized}
-use Rattle.access_rule.proofs.Answers.{lengths_passed, lengths_stand, inspection_stands, touches_decide, touches_done}
+use Rattle.answer.proofs.Told.{refusal_refuses}
+use Rattle.access_rule.proofs.Answers.{lengths_passed, lengths_stand, inspection_stands, touches_decide}
 use Rattle.access_script.proofs.judge.Goals as goal
 
-pub returns-then-lengths-ne-DONE : goal.returns-then-lengths-ne-DONE
-returns-then-lengths-ne-DONE c =
-    let u = c.args in
-    let e = c.check_lengths-lengths.ensures in
-    e ∙ lengths_stand _ _ _ _ u.grid u.space u.held (λ z. c.if-lengths-ne-DONE.true (ap number_of e ∙ z))
+pub returns-in_err-check_lengths : goal.returns-in_err-check_lengths
+returns-in_err-check_lengths c =
+    let told = c.in_err-check_lengths.ensures in
+    let r : c.from_residual.result ≡ Err c.in_err-check_lengths.field-0.0 = search rules in
+    rw r (told ∙ lengths_stand _ _ _ _ c.args.proposal.now.table.grid c.args.space c.args.held (refusal_refuses _ told))
 
-pub returns-then-inspected-ne-DONE : goal.returns-then-inspected-ne-DONE
-returns-then-inspected-ne-DONE c =
-    let u = c.args in
-    let e = c.judge-inspected.ensures in
+pub returns-in_err-judge : goal.returns-in_err-judge
+returns-in_err-judge c =
     -- past the checks 1 to 3, what they say
-    let sized : Sized u.requests.now u.offsets.now u.accesses.now u.room = lengths_passed _ _ _ _ (sym (ap number_of c.check_lengths-lengths.ensures) ∙ c.if-lengths-ne-DONE.false) in
-    e ∙ inspection_stands _ _ _ _ u.grid u.space u.held sized (λ z. c.if-inspected-ne-DONE.true (ap number_of e ∙ z))
+    let sized = lengths_passed _ _ _ _ (ap number_of (sym c.in_ok-check_lengths.ensures)) in
+    let told = c.in_err-judge.ensures in
+    let r : c.from_residual-in_err-judge.result ≡ Err c.in_err-judge.field-0.0 = search rules in
+    rw r (told ∙ inspection_stands _ _ _ _ c.args.proposal.now.table.grid c.args.space c.args.held sized (refusal_refuses _ told))
 
-pub judge_accesses-touched-requires : goal.judge_accesses-touched-requires
-judge_accesses-touched-requires c =
-    (lengths_passed _ _ _ _ (sym (ap number_of c.check_lengths-lengths.ensures) ∙ c.if-lengths-ne-DONE.false)).few_accesses
-
-pub returns-then-touched-ne-DONE : goal.returns-then-touched-ne-DONE
-returns-then-touched-ne-DONE c =
-    let u = c.args in
-    let sized : Sized u.requests.now u.offsets.now u.accesses.now u.room = lengths_passed _ _ _ _ (sym (ap number_of c.check_lengths-lengths.ensures) ∙ c.if-lengths-ne-DONE.false) in
-    let accepted = sym (ap number_of c.judge-inspected.ensures) ∙ c.if-inspected-ne-DONE.false in
-    c.judge_accesses-touched.ensures ∙ touches_decide _ _ _ _ u.grid u.space u.held sized accepted
+pub judge_accesses-requires : goal.judge_accesses-requires
+judge_accesses-requires c = (lengths_passed _ _ _ _ (ap number_of (sym c.in_ok-check_lengths.ensures))).few_accesses
 
 pub returns : goal.returns
 returns c =
-    let u = c.args in
-    let sized : Sized u.requests.now u.offsets.now u.accesses.now u.room = lengths_passed _ _ _ _ (sym (ap number_of c.check_lengths-lengths.ensures) ∙ c.if-lengths-ne-DONE.false) in
-    let accepted = sym (ap number_of c.judge-inspected.ensures) ∙ c.if-inspected-ne-DONE.false in
-    c.done.ensures
-    ∙ touches_done _ _ _ _ (sym (ap number_of c.judge_accesses-touched.ensures) ∙ c.if-touched-ne-DONE.false)
-    ∙ touches_decide _ _ _ _ u.grid u.space u.held sized accepted
+    let sized = lengths_passed _ _ _ _ (ap number_of (sym c.in_ok-check_lengths.ensures)) in
+    c.judge_accesses.ensures
+    ∙ touches_decide _ _ _ _ c.args.proposal.now.table.grid c.args.space c.args.held sized (ap number_of (sym c.in_ok-judge.ensures))

@@ -1,5 +1,8 @@
 -- `accesses::access_at` meets its contract.
-use native.Mathlib.Omega.{arith}
+use Rattle.std.proofs.Common.{arith, rules}
+use Rattle.std.specs.Prelude.{◌≡◌}
+use Rattle.access_rule.specs.Accesses.{write_of}
+use Rattle.request_table.specs.Table.{word}
 use Rattle.accesses.proofs.Judging.{access_is, access_past}
 use Rattle.accesses.proofs.access_at.Goals as goal
 
@@ -8,4 +11,5 @@ returns-then-accesses-k c = access_past _ _ (omega arith)
 
 pub returns : goal.returns
 returns c =
-    access_is c.args.accesses.now c.args.k c.natural-moment.ensures c.natural-row.ensures c.natural-index.ensures c.is_minus_one-reads.ensures c.natural-value.ensures
+    let write : c.if-reads.write ≡ write_of (word c.args.accesses.now c.args.k 3) = search rules in
+    access_is c.args.accesses.now c.args.k c.natural-moment.ensures c.natural-row.ensures c.natural-index.ensures write

@@ -6,7 +6,7 @@ use Rattle.alignment.proofs.NoGrid.{none_lost}
 use Rattle.alignment.proofs.bytes_lost.Goals as goal
 
 pub returns-in-16 : goal.returns-in-16
-returns-in-16 c = rw c.in-16.is (loss_by_bits 60 4 _ c.args.start c.wrapping_sub_u64.ensures.value)
+returns-in-16 c = rw c.in-16.is (loss_by_bits 60 4 _ c.args.start c.wrapping_neg.ensures)
 
 pub returns-in-0 : goal.returns-in-0
 returns-in-0 c = let a = c.args in none_lost a.grid a.start c.in-0.is

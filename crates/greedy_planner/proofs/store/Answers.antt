@@ -11,14 +11,12 @@ use Rattle.greedy_planner.specs.Arrays.{offset_in}
 use Rattle.greedy_planner.proofs.store.Goals as goal
 
 pub loop-row-init : goal.loop-row-init
-loop-row-init c = (sym (replaced_none _ _), omega arith)
+loop-row-init c = sym (replaced_none _ _)
 
 pub loop-row-preserved : goal.loop-row-preserved
 loop-row-preserved c =
-    let found = c.args.found in
-    let row = c.loop-row.row.0 in
-    let l = c.loop-row-test.true in (
-      rw (to_z_pos w32 {n = offset_in found row} (c.requires.small_offsets.each row l))
-          (ap (λ (xs : List ℤ). set xs row (pos (offset_in found row))) c.loop-row.invariant.0 ∙ replaced_more (λ r. pos (offset_in found r)) row _),
-      omega arith,
-    )
+    let found = c.args.found.now in
+    let row = c.loop-row.row in
+    let l = c.loop-row-test.true in
+    rw (to_z_pos w32 {n = offset_in found row} (c.requires.small_offsets.each row (omega arith)))
+    (ap (λ (xs : List ℤ). set xs row (pos (offset_in found row))) c.loop-row.invariant ∙ replaced_more (λ r. pos (offset_in found r)) row _)

@@ -1,5 +1,4 @@
 -- `greedy_planner::store` meets its contract: the entries so far are replaced.
-use Prim.Native.Nat.{◌-◌, ◌≤◌}
 use mathlib.Core.Path.{◌≡◌}
 use lib.IntN.{pos}
 use Rattle.bounded.specs.Replaced.{replaced}
@@ -7,7 +6,4 @@ use Rattle.greedy_planner.specs.Arrays.{offset_in}
 use Rattle.greedy_planner.proofs.store.Given as goal
 
 abbrev pub invariant-loop-row : goal.invariant-loop-row
-invariant-loop-row l = (l.offsets ≡ replaced (λ r. pos (offset_in l.found r)) l.row.0 l.initial.offsets) × (l.row.0 ≤ l.n)
-
-abbrev pub decreases-loop-row : goal.decreases-loop-row
-decreases-loop-row l = l.n - l.row.0
+invariant-loop-row l = l.offsets ≡ replaced (λ r. pos (offset_in l.found r)) l.row l.initial.offsets

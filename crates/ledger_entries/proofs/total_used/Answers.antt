@@ -1,19 +1,15 @@
--- `ledger_entries::total_used` meets its contract: the kinds so far are added up.
-use Prim.Native.Nat.{ℕ, ◌+◌}
-use mathlib.Core.Path.{◌∙◌, ap}
-use native.Mathlib.Omega.{arith}
-use Rattle.ledger_entries.proofs.Entries.{none_added, added}
-use Rattle.ledger_entries.proofs.SixKinds.{six_kinds}
+-- `ledger_entries::total_used` meets its contract: the chain adds up the used bytes.
+use Rattle.std.proofs.Common.{rules, ◌≡◌, ◌∙◌, sum_by}
+use Rattle.std.proofs.iter.runs.Sources.{sums}
+use Rattle.recording_rule.specs.Ledger.{used_bytes}
+use Rattle.ledger_entries.proofs.Entries.{added_up}
+use Rattle.ledger_entries.proofs.SixKinds.{total_fits}
 use Rattle.ledger_entries.proofs.total_used.Goals as goal
 
-pub loop-kind-init : goal.loop-kind-init
-loop-kind-init c = (none_added, omega arith, omega arith)
+pub sum-requires-clause-fits : goal.sum-requires-clause-fits
+sum-requires-clause-fits c = let fits = total_fits c.args.ledger _ c.well_formed.0 in search (rules, sums)
 
-pub loop-kind-preserved : goal.loop-kind-preserved
-loop-kind-preserved c =
-    let l = c.args.ledger in (
-      ap (λ (n : ℕ). n + c.of_kind-recorded.result.used) c.loop-kind.invariant.0
-          ∙ added l _ _ c.of_kind-recorded.ensures (omega (arith, six_kinds l _ c.well_formed.0, c.loop-kind-test.true)),
-      omega arith,
-      omega arith,
-    )
+pub returns : goal.returns
+returns c =
+    let chain : c.sum.result ≡ sum_by used_bytes c.args.ledger.kinds = search rules in
+    chain ∙ added_up c.args.ledger.kinds

@@ -1,34 +1,38 @@
 -- `operator_uses::check` meets its contract: a refusal of the first three stands, and past them the lowest bad use is told.
-use Prim.Native.Nat.{ℕ, ◌<◌}
-use mathlib.Core.List.{List}
-use mathlib.Core.Path.{◌≡◌, sym, ◌∙◌, ap}
-use native.Mathlib.Omega.{arith}
-use lib.IntN.{ℤ}
-use Rattle.answer.specs.Answer.{number_of}
-use Rattle.answer.specs.declared.Answer.{Answer}
+use Prim.Native.Nat.{ℕ}
+use Rattle.std.proofs.Common.{arith, sym, ◌∙◌, ap, refl, rules}
+use Rattle.std.specs.Prelude.{List, ℤ, ◌≡◌, Err}
+use Rattle.answer.specs.Answer.{number_of, done_with}
+use Rattle.answer.specs.Refusals.{told}
+use Rattle.answer.proofs.Told.{refusal_refuses}
 use Rattle.lifetime_rule.specs.Answers.{Sized}
 use Rattle.lifetime_rule.proofs.Answers.{sizes_passed, sizes_stand, use_refused, list_passed}
 use Rattle.lifetime_rule.specs.FromUses.{sizes_of}
-use Rattle.lifetime_rule.specs.Uses.{count}
+use Rattle.lifetime_rule.specs.Uses.{bad_use}
+use Rattle.use_rows.proofs.IndexFound.{index_found, none_found}
 use Rattle.operator_uses.proofs.check.Goals as goal
 
 -- past the checks 1, 2 and 3, what they say
-sized : {operators tensors : ℕ} {u : List ℤ} {room : ℕ} {x : Answer} → x ≡ sizes_of operators tensors u room → number_of x ≡ 0 → Sized operators tensors u room
-sized e z = sizes_passed _ _ _ _ (sym (ap number_of e) ∙ z)
+sized : {operators tensors : ℕ} {u : List ℤ} {room : ℕ} → done_with 0 ≡ sizes_of operators tensors u room → Sized operators tensors u room
+sized e = sizes_passed _ _ _ _ (ap number_of (sym e))
 
-pub returns-then-sizes-ne-DONE : goal.returns-then-sizes-ne-DONE
-returns-then-sizes-ne-DONE c = let e = c.check_sizes-sizes.ensures in e ∙ sizes_stand _ _ _ _ (λ z. c.if-sizes-ne-DONE.true (ap number_of e ∙ z))
+pub returns-in_err-check_sizes : goal.returns-in_err-check_sizes
+returns-in_err-check_sizes c =
+    let e = c.in_err-check_sizes.ensures in
+    let r : c.from_residual.result ≡ Err c.in_err-check_sizes.field-0.0 = search rules in
+    rw r (e ∙ sizes_stand _ _ _ _ (refusal_refuses _ e))
 
-pub overflow_cast-bad : goal.overflow_cast-bad
-overflow_cast-bad c =
-    let a = c.args in
-    let l : c.lowest_bad_use-bad.result < count a.uses.now = c.if-bad-uses.true in
-    omega (arith, l, (sized c.check_sizes-sizes.ensures c.if-sizes-ne-DONE.false).few_uses)
+pub overflow_cast-row : goal.overflow_cast-row
+overflow_cast-row c =
+    let f = index_found (bad_use c.args.list.now.operators c.args.list.now.tensors c.args.list.now.uses.now) _ _ (sym c.lowest_bad_use.ensures ∙ c.in-Some.is) in
+    omega (arith, f.0, f.1, (sized c.in_ok-check_sizes.ensures).few_uses)
 
-pub returns-then-bad-uses : goal.returns-then-bad-uses
-returns-then-bad-uses c =
-    c.refused_at.ensures ∙ use_refused _ _ _ _ c.lowest_bad_use-bad.ensures (sized c.check_sizes-sizes.ensures c.if-sizes-ne-DONE.false) c.if-bad-uses.true
+pub returns-in-Some : goal.returns-in-Some
+returns-in-Some c =
+    let f = index_found (bad_use c.args.list.now.operators c.args.list.now.tensors c.args.list.now.uses.now) _ _ (sym c.lowest_bad_use.ensures ∙ c.in-Some.is) in
+    ap told c.at.ensures ∙ use_refused _ _ _ _ (sym f.1) (sized c.in_ok-check_sizes.ensures) (omega (arith, f.0, f.1))
 
 pub returns : goal.returns
 returns c =
-    c.done.ensures ∙ list_passed _ _ _ _ c.lowest_bad_use-bad.ensures (sized c.check_sizes-sizes.ensures c.if-sizes-ne-DONE.false) c.if-bad-uses.false
+    let none = none_found (bad_use c.args.list.now.operators c.args.list.now.tensors c.args.list.now.uses.now) _ (sym c.lowest_bad_use.ensures ∙ c.in_default.is) in
+    list_passed _ _ _ _ refl (sized c.in_ok-check_sizes.ensures) none

@@ -15,7 +15,7 @@ pub put_row-next-requires : goal.put_row-next-requires
 put_row-next-requires c =
     let at = c.loop-row in
     -- the line of the row has its greatest length at most
-    let short : length (row_line at.row.0 c.natural-offset.result) ≤ 22 =
+    let short : length (row_line at.row c.natural-offset.result) ≤ 22 =
     row_short _ _ (omega (arith, c.requires.0, c.loop-row-test.true)) (omega (arith, c.natural-offset.type_inv)) in
     record { holds = omega (arith, short, at.invariant.1, put_length at.invariant.0, c.requires.1, c.loop-row-test.true) }
 
@@ -24,7 +24,7 @@ unfolding offset_in
 loop-row-preserved c =
     let at = c.loop-row in
     let put = c.put_row-next.ensures in
-    let short : length (row_line at.row.0 c.natural-offset.result) ≤ 22 =
+    let short : length (row_line at.row c.natural-offset.result) ≤ 22 =
     row_short _ _ (omega (arith, c.requires.0, c.loop-row-test.true)) (omega (arith, c.natural-offset.type_inv)) in (
       rw lines_more (put_both at.invariant.0 (rw c.natural-offset.ensures at put)),
       omega (arith, short, put.ends, at.invariant.1),

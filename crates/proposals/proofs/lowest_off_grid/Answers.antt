@@ -1,13 +1,14 @@
--- `proposals::lowest_off_grid` meets its contract: the scan of the rows.
-use mathlib.Core.Path.{sym, ◌∙◌}
-use Rattle.bounded.proofs.First.{pass, hit, out}
+-- `proposals::lowest_off_grid` meets its contract: the first row of which the closure says that it is off the grid.
+use Rattle.std.specs.Prelude.{◌≡◌, refl}
+use Rattle.std.proofs.Common.{rules}
+use Rattle.bounded.specs.First.{found_in}
+use Rattle.bounded.proofs.Found.{found_up_to}
+use Rattle.inspection_rule.specs.Inspect.{off_grid}
 use Rattle.proposals.proofs.lowest_off_grid.Goals as goal
 
-pub returns-then-is_off_grid : goal.returns-then-is_off_grid
-returns-then-is_off_grid c = hit c.loop-row.invariant c.loop-row-test.true (sym c.is_off_grid.ensures ∙ c.if-is_off_grid.true)
-
-pub loop-row-preserved : goal.loop-row-preserved
-loop-row-preserved c = pass c.loop-row.invariant c.loop-row-test.true (sym c.is_off_grid.ensures ∙ c.if-is_off_grid.false)
-
 pub returns : goal.returns
-returns c = out c.loop-row.invariant c.loop-row-test.false
+returns c =
+    let u = c.args in
+    let found : c.find.result ≡ found_in (off_grid u.grid u.offsets.now) 0 u.count =
+    found_up_to (off_grid u.grid u.offsets.now) u.count _ _ _ _ refl refl c.find.ensures.ran (λ x b q k. search rules) in
+    search (rules, found)

@@ -3,4 +3,4 @@ use Rattle.request_rows.proofs.Tests.{good_is}
 use Rattle.request_rows.proofs.is_good.Goals as goal
 
 pub returns : goal.returns
-returns c = let u = c.args in good_is u.grid u.request c.on_grid.ensures
+returns c = let u = c.args in good_is u.grid u.request c.is_good_offset.ensures

@@ -1,6 +1,7 @@
 -- `request_rows::request_at` meets its contract.
 use mathlib.Core.Path.{◌∙◌, ap}
-use Rattle.words.specs.Words.{natural, is_minus_one}
+use Rattle.words.specs.Words.{natural}
+use Rattle.request_table.specs.Table.{fixed_at}
 use Rattle.request_rows.proofs.Tests.{row_is}
 use Rattle.request_rows.proofs.request_at.Goals as goal
 
@@ -11,5 +12,4 @@ returns c =
     (c.natural-size.ensures ∙ ap natural c.place_of.ensures)
     (c.natural-first.ensures ∙ ap natural c.place_of-2.ensures)
     (c.natural-last.ensures ∙ ap natural c.place_of-3.ensures)
-    (c.is_minus_one-fixed.ensures ∙ ap is_minus_one place)
-    (c.natural-offset.ensures ∙ ap natural place)
+    (c.fixed_at-offset.ensures ∙ ap fixed_at place)

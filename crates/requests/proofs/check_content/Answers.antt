@@ -1,26 +1,28 @@
 -- `requests::check_content` meets its contract: the space, then the lowest bad row.
-use Prim.Native.Nat.{◌<◌, ◌≤◌, zero-le}
-use mathlib.Core.Path.{◌∙◌}
-use native.Mathlib.Omega.{arith}
-use Rattle.bounded.proofs.First.{first_is}
+use Rattle.std.proofs.Common.{arith, sym, ◌∙◌, ap}
+use Rattle.std.specs.Prelude.{◌≡◌}
+use Rattle.bounded.specs.First.{first_in}
+use Rattle.bounded.proofs.Found.{found_some, found_none}
+use Rattle.units.specs.Numbered.{row_of}
+use Rattle.answer.specs.Refusals.{told}
 use Rattle.request_table.proofs.CheckLaws.{space_refused, row_refused, content_passed}
 use Rattle.request_table.specs.Table.{rows, bad_row}
 use Rattle.requests.proofs.check_content.Goals as goal
 
-pub overflow_cast-place : goal.overflow_cast-place
-overflow_cast-place c = let u = c in omega (arith, c.lowest_bad_row-bad.ensures, (first_is (bad_row u.args.grid u.args.table.now) 0 (rows u.args.table.now) zero-le).high)
-
 pub returns-then-too_large : goal.returns-then-too_large
-returns-then-too_large c = c.refused_at.ensures ∙ space_refused c.args.grid _ _ c.if-too_large.true
+returns-then-too_large c = ap told c.of.ensures ∙ space_refused c.args.table.now.grid _ _ c.if-too_large.true
 
-pub returns-then-flawed : goal.returns-then-flawed
-returns-then-flawed c =
-    let e = c.lowest_bad_row-bad.ensures in
-    let l : c.lowest_bad_row-bad.result.0 < rows c.args.table.now = c.if-flawed.true in
-    c.refused_at-then-flawed.ensures ∙ rw e (row_refused _ _ _ c.if-too_large.false (rw e at l))
+pub overflow_cast-row : goal.overflow_cast-row
+overflow_cast-row c =
+    let found = found_some row_of _ _ _ (sym c.lowest_bad_row-bad.ensures ∙ c.in-Some.is) in
+    omega (arith, found.0, ap (λ r. r.0) found.1)
+
+pub returns-in-Some : goal.returns-in-Some
+returns-in-Some c =
+    let u = c.args in
+    let found = found_some row_of _ _ _ (sym c.lowest_bad_row-bad.ensures ∙ c.in-Some.is) in
+    let e : first_in (bad_row u.table.now.grid u.table.now.words.now) 0 (rows u.table.now.words.now) ≡ c.in-Some.row.0 = ap (λ r. r.0) found.1 in
+    ap told c.at.ensures ∙ rw (← e) (row_refused _ _ _ c.if-too_large.false found.0)
 
 pub returns : goal.returns
-returns c =
-    let e = c.lowest_bad_row-bad.ensures in
-    let l : rows c.args.table.now ≤ c.lowest_bad_row-bad.result.0 = c.if-flawed.false in
-    c.done.ensures ∙ content_passed _ _ _ c.if-too_large.false (rw e at l)
+returns c = content_passed _ _ _ c.if-too_large.false (found_none row_of _ _ (sym c.lowest_bad_row-bad.ensures ∙ c.in_default.is))

@@ -1,6 +1,7 @@
 -- `sheet_bytes::read` meets its contract: past the test the rows' words fit the table, and the version tells what they are.
 use Prim.Native.Nat.{ℕ, ◌*◌}
 use mathlib.Core.Bool.{true}
+use Rattle.std.specs.Prelude.{Some}
 use lib.IntN.{ℤ}
 use mathlib.Core.List.{List, ◌++◌}
 use mathlib.Core.Path.{◌≡◌, sym, ◌∙◌, ap, ap₂}
@@ -43,7 +44,7 @@ read_rows-requires c =
 pub returns-then-version-eq-REQUEST_VERSION-clause-sheet : goal.returns-then-version-eq-REQUEST_VERSION-clause-sheet
 returns-then-version-eq-REQUEST_VERSION-clause-sheet c =
     let n = counted _ c.unsigned16-rows.ensures c.unsigned16-version.ensures c.row_words.ensures in
-    ap₂ Requests n c.unsigned32-space.ensures
+    ap₂ (λ (k m : ℕ). Some (Requests k m)) n c.unsigned32-space.ensures
     ∙ requests_read _ (sym c.is_well_formed.ensures ∙ c.if-not-is_well_formed.false) (sym c.unsigned16-version.ensures ∙ c.if-version-eq-REQUEST_VERSION.true)
 
 pub returns-then-version-eq-REQUEST_VERSION-clause-table : goal.returns-then-version-eq-REQUEST_VERSION-clause-table
@@ -53,7 +54,7 @@ returns-then-version-eq-REQUEST_VERSION-clause-table c =
 pub returns-clause-sheet : goal.returns-clause-sheet
 returns-clause-sheet c =
     let n = counted _ c.unsigned16-rows.ensures c.unsigned16-version.ensures c.row_words.ensures in
-    ap₂ Shapes n c.unsigned32-space.ensures
+    ap₂ (λ (k m : ℕ). Some (Shapes k m)) n c.unsigned32-space.ensures
     ∙ shapes_read _ (sym c.is_well_formed.ensures ∙ c.if-not-is_well_formed.false) (λ z. c.if-version-eq-REQUEST_VERSION.false (c.unsigned16-version.ensures ∙ z))
 
 pub returns-clause-table : goal.returns-clause-table

@@ -1,14 +1,13 @@
--- `tensor_lifetimes::lowest_early` meets its contract: the scan of the uses.
-use mathlib.Core.Path.{◌∙◌}
-use Rattle.bounded.proofs.First.{pass, hit, out}
+-- `tensor_lifetimes::lowest_early` meets its contract: the first use that the closure takes for an early read.
+use Rattle.std.specs.Prelude.{refl}
+use Rattle.std.proofs.Common.{rules}
+use Rattle.bounded.proofs.Found.{found_up_to}
+use Rattle.lifetime_rule.specs.Uses.{count}
+use Rattle.tensor_lifetimes.specs.Gathered.{early_in}
 use Rattle.tensor_lifetimes.proofs.Judging.{early_test}
 use Rattle.tensor_lifetimes.proofs.lowest_early.Goals as goal
 
-pub returns-then-usage-lifetime : goal.returns-then-usage-lifetime
-returns-then-usage-lifetime c = hit c.loop-k.invariant c.loop-k-test.true (early_test _ c.args.gathered _ c.use_at-usage.ensures ∙ c.if-usage-lifetime.true)
-
-pub loop-k-preserved : goal.loop-k-preserved
-loop-k-preserved c = pass c.loop-k.invariant c.loop-k-test.true (early_test _ c.args.gathered _ c.use_at-usage.ensures ∙ c.if-usage-lifetime.false)
-
 pub returns : goal.returns
-returns c = out c.loop-k.invariant c.loop-k-test.false
+returns c =
+    let list = c.args.list.now in
+    found_up_to (early_in list.uses.now c.args.gathered.now) (count list.uses.now) _ _ _ _ refl c.count.ensures c.find.ensures.ran (λ x b q k. search (rules, early_test))

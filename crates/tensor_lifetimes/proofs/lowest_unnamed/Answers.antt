@@ -1,20 +1,16 @@
--- `tensor_lifetimes::lowest_unnamed` meets its contract: the scan of the tensors.
-use Prim.Native.Nat.{◌<◌, ◌≤◌}
-use native.Mathlib.Omega.{arith}
-use borrow.Author.Tests.{le-leb, lt-leb}
-use Rattle.bounded.proofs.First.{pass, hit, out}
-use Rattle.tensor_lifetimes.specs.Gathered.{lifetime_in}
+-- `tensor_lifetimes::lowest_unnamed` meets its contract: the first tensor that the closure takes for unnamed.
+use Prim.Native.Nat.{zero-le}
+use Rattle.std.proofs.Common.{rules}
+use Rattle.std.specs.Prelude.{◌≡◌}
+use Rattle.bounded.specs.First.{found_in}
+use Rattle.bounded.proofs.Found.{found_by_find}
+use Rattle.tensor_lifetimes.specs.Gathered.{unnamed_in}
 use Rattle.tensor_lifetimes.proofs.lowest_unnamed.Goals as goal
 
-pub loop-tensor-preserved : goal.loop-tensor-preserved
-loop-tensor-preserved c =
-    let named : (lifetime_in c.args.gathered c.loop-tensor.tensor.0).first.0 < c.args.operators = omega arith in
-    pass c.loop-tensor.invariant c.loop-tensor-test.true (lt-leb _ _ named)
-
-pub returns-then-operators-lifetime : goal.returns-then-operators-lifetime
-returns-then-operators-lifetime c =
-    let never_named : c.args.operators ≤ (lifetime_in c.args.gathered c.loop-tensor.tensor.0).first.0 = omega arith in
-    hit c.loop-tensor.invariant c.loop-tensor-test.true (le-leb _ _ never_named)
-
 pub returns : goal.returns
-returns c = out c.loop-tensor.invariant c.loop-tensor-test.false
+returns c =
+    let list = c.args.list.now in
+    let gathered = c.args.gathered.now in
+    let found : c.find.result ≡ found_in (unnamed_in list.operators gathered) 0 list.tensors =
+    found_by_find (unnamed_in list.operators gathered) _ _ _ _ zero-le c.find.ensures.ran (λ x b q k. search rules) in
+    search (rules, found)

@@ -1,5 +1,5 @@
 -- `word_lists::read_words` meets its contract: the entries so far are words of the bytes.
-use Prim.Native.Nat.{◌-◌, ◌*◌, ◌≤◌}
+use Prim.Native.Nat.{◌*◌, ◌≤◌}
 use mathlib.Core.Path.{◌≡◌}
 use lib.ListN.{length}
 use Rattle.bounded.specs.Replaced.{replaced}
@@ -8,6 +8,3 @@ use Rattle.word_lists.proofs.read_words.Given as goal
 
 abbrev pub invariant-loop-number : goal.invariant-loop-number
 invariant-loop-number l = (l.table ≡ replaced (λ k. word_of l.bytes (k * 4)) l.number l.initial.table) × (l.number ≤ length l.initial.table)
-
-abbrev pub decreases-loop-number : goal.decreases-loop-number
-decreases-loop-number l = length l.initial.table - l.number

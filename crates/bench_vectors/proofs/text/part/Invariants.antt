@@ -1,9 +1,0 @@
--- `bench_vectors::text::part` is safe and ends: a part starts within the bytes passed.
-use Rattle.std.proofs.Common.{◌-◌, ◌≤◌, length}
-use Rattle.bench_vectors.proofs.text.part.Given as goal
-
-abbrev pub invariant-loop-at : goal.invariant-loop-at
-invariant-loop-at l = (l.start ≤ l.at) × (l.at ≤ length l.text)
-
-abbrev pub decreases-loop-at : goal.decreases-loop-at
-decreases-loop-at l = length l.text - l.at

@@ -1,9 +1,0 @@
--- `planner_comparison::compare::same_table` is safe and ends.
-use Rattle.std.proofs.Common.{◌-◌, length}
-use Rattle.planner_comparison.proofs.compare.same_table.Given as goal
-
-abbrev pub invariant-loop-at : goal.invariant-loop-at
-invariant-loop-at l = Unit {0}
-
-abbrev pub decreases-loop-at : goal.decreases-loop-at
-decreases-loop-at l = length l.a - l.at

@@ -1,0 +1,76 @@
+// Why document 01 refuses a table or a plan, read from it anew, and the answers that tell it.
+use answer::Answer;
+use std::alloc::{AllocError, AllocFailed};
+
+// The rows that are told, or the need.
+#[derive(Clone, Copy)]
+pub enum Refusal {
+    NotWholeRows,
+    TooMany,
+    TableTooShort,
+    SpaceTooLarge,
+    BadRow(usize),
+    FixedRowsCollide(usize, usize),
+    NeedExceedsSpace(u64),
+    FixedRowMoved(usize),
+    BadOffset(usize),
+    RowsCollide(usize, usize),
+}
+
+// Why there is no plan or no verdict: a refusal, or no memory to work it out in.
+#[derive(Clone, Copy)]
+pub enum Stop {
+    Refused(Refusal),
+    OutOfMemory(AllocError),
+}
+
+impl From<Refusal> for Stop {
+    fn from(refusal: Refusal) -> Stop {
+        Stop::Refused(refusal)
+    }
+}
+
+impl From<AllocError> for Stop {
+    fn from(error: AllocError) -> Stop {
+        Stop::OutOfMemory(error)
+    }
+}
+
+impl<T: Drop> From<AllocFailed<T>> for Stop {
+    fn from(failed: AllocFailed<T>) -> Stop {
+        Stop::OutOfMemory(failed.into())
+    }
+}
+
+// An answer, with a number of document 01. A row whose number is no 32 bits is told as the greatest, which no answer of the planner has.
+fn told(number: u32, a: usize, b: usize, need: u64) -> Answer {
+    let a = u32::try_from(a).unwrap_or(u32::MAX);
+    let b = u32::try_from(b).unwrap_or(u32::MAX);
+    Answer { number, a, b, need }
+}
+
+impl From<Refusal> for Answer {
+    fn from(refusal: Refusal) -> Answer {
+        match refusal {
+            Refusal::NotWholeRows => told(1, 0, 0, 0),
+            Refusal::TooMany => told(2, 0, 0, 0),
+            Refusal::TableTooShort => told(3, 0, 0, 0),
+            Refusal::SpaceTooLarge => told(4, 0, 0, 0),
+            Refusal::BadRow(row) => told(5, row, 0, 0),
+            Refusal::FixedRowsCollide(a, b) => told(6, a, b, 0),
+            Refusal::NeedExceedsSpace(need) => told(7, 0, 0, need),
+            Refusal::FixedRowMoved(row) => told(8, row, 0, 0),
+            Refusal::BadOffset(row) => told(9, row, 0, 0),
+            Refusal::RowsCollide(a, b) => told(10, a, b, 0),
+        }
+    }
+}
+
+// The answer to what was worked out: 0 with the need, or the refusal's.
+pub(crate) fn tell(outcome: Result<u64, Stop>) -> Result<Answer, AllocError> {
+    match outcome {
+        Ok(need) => Ok(told(0, 0, 0, need)),
+        Err(Stop::Refused(refusal)) => Ok(refusal.into()),
+        Err(Stop::OutOfMemory(error)) => Err(error),
+    }
+}
