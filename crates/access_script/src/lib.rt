@@ -24,7 +24,7 @@ fn judge_accesses(table: &Table, space: u32, accesses: &[i32], held: usize) -> R
 {
     let arena_short = held < space as usize;
     if arena_short {
-        return Err(Refusal::of(Cause::ArenaTooShort));
+        return Err(Refusal::at(Cause::ArenaTooShort, 0));
     }
     if let Some(touch) = accesses::lowest_bad(table, accesses) {
         return Err(Refusal::at(Cause::BadAccess, touch as u32));

@@ -3,7 +3,7 @@
 #![tactic(auto)]
 
 ghost use Rattle.std.specs.Prelude.{◌≡◌};
-ghost use Rattle.answer.specs.Answer.{done_with, done_at};
+ghost use Rattle.answer.specs.Answer.{done_with, done_at, refused as refused_by, refused_at, refused_pair, refused_need};
 ghost use Rattle.answer.specs.Refusals.{number_of_cause, refused_for, refused_for_at, refused_for_pair, refused_for_need, told, answer_of, verdict_of};
 
 #[derive(Clone, Copy, Debug, PartialEq, Eq)]
@@ -106,6 +106,53 @@ impl Answer {
     // The number of an answer that is no refusal.
     pub const DONE: u32 = 0;
 
+    // The causes' numbers, for whoever is handed an answer.
+    pub const NOT_WHOLE_ROWS: u32 = Cause::NotWholeRows as u32;
+
+    pub const TOO_MANY: u32 = Cause::TooMany as u32;
+
+    pub const TABLE_TOO_SHORT: u32 = Cause::TableTooShort as u32;
+
+    pub const SPACE_TOO_LARGE: u32 = Cause::SpaceTooLarge as u32;
+
+    pub const BAD_ROW: u32 = Cause::BadRow as u32;
+
+    pub const FIXED_ROWS_COLLIDE: u32 = Cause::FixedRowsCollide as u32;
+
+    pub const NEED_EXCEEDS_SPACE: u32 = Cause::NeedExceedsSpace as u32;
+
+    pub const FIXED_ROW_MOVED: u32 = Cause::FixedRowMoved as u32;
+
+    pub const BAD_OFFSET: u32 = Cause::BadOffset as u32;
+
+    pub const ROWS_COLLIDE: u32 = Cause::RowsCollide as u32;
+
+    pub const BAD_ACCESS: u32 = Cause::BadAccess as u32;
+
+    pub const ARENA_TOO_SHORT: u32 = Cause::ArenaTooShort as u32;
+
+    pub const SECTIONS_NOT_VALID: u32 = Cause::SectionsNotValid as u32;
+
+    pub const BAD_ALIGNMENT: u32 = Cause::BadAlignment as u32;
+
+    pub const NO_ROOM: u32 = Cause::NoRoom as u32;
+
+    pub const TEMPORARIES_OUT: u32 = Cause::TemporariesOut as u32;
+
+    pub const HEAD_MADE_SMALLER: u32 = Cause::HeadMadeSmaller as u32;
+
+    pub const WRONG_LENGTH: u32 = Cause::WrongLength as u32;
+
+    pub const OTHER_TENSOR_COUNT: u32 = Cause::OtherTensorCount as u32;
+
+    pub const TENSOR_NEVER_NAMED: u32 = Cause::TensorNeverNamed as u32;
+
+    pub const READ_BEFORE_WRITTEN: u32 = Cause::ReadBeforeWritten as u32;
+
+    pub const BAD_TYPE_CODE: u32 = Cause::BadTypeCode as u32;
+
+    pub const BAD_ALLOCATION_KIND: u32 = Cause::BadAllocationKind as u32;
+
     // Done, with the need of the plan.
     pub fn done(need: u64) -> Answer
         ensures { result ≡ done_with need }
@@ -124,6 +171,43 @@ impl Answer {
     {
         let mut answer = Answer::done(0);
         answer.a = start;
+        answer
+    }
+
+    // Refused by any number, with nothing carried. These four are for callers that have a number; code of the libraries has a cause, and makes a `Refusal`.
+    pub fn refused(number: u32) -> Answer
+        ensures { result ≡ refused_by number }
+    {
+        Answer {
+            number,
+            ..Answer::done(0)
+        }
+    }
+
+    // Refused for one row, touch, tensor or use.
+    pub fn refused_at(number: u32, a: u32) -> Answer
+        ensures { result ≡ refused_at number a }
+    {
+        let mut answer = Answer::refused(number);
+        answer.a = a;
+        answer
+    }
+
+    // Refused for two rows.
+    pub fn refused_pair(number: u32, a: u32, b: u32) -> Answer
+        ensures { result ≡ refused_pair number a b }
+    {
+        let mut answer = Answer::refused_at(number, a);
+        answer.b = b;
+        answer
+    }
+
+    // Refused for a need, which is carried.
+    pub fn refused_need(number: u32, need: u64) -> Answer
+        ensures { result ≡ refused_need number need }
+    {
+        let mut answer = Answer::refused(number);
+        answer.need = need;
         answer
     }
 }

@@ -3,11 +3,10 @@
 #![tactic(auto)]
 
 ghost use Rattle.std.specs.Prelude.{◌≡◌};
-ghost use Rattle.answer.specs.Refusals.{number_of_cause};
 ghost use Rattle.arena_sections.specs.Cases.{outcome_by, checked_by};
 ghost use Rattle.arena_sections.specs.Sections.{base_alignment, zeros, fresh as fresh_state, valid, refused_outcome, open_of, allocation_of, persistent_of, temp_of, reset_of, head_of};
 
-use answer::{Answer, Cause, Refusal};
+use answer::{Answer, Cause};
 
 // Where the sections end. In a valid state head ≤ temp ≤ tail ≤ usable ≤ GREATEST_LENGTH.
 #[derive(Clone, Copy, Debug, PartialEq, Eq)]
@@ -26,12 +25,12 @@ pub struct Outcome {
 }
 
 impl Outcome {
-    // Refused for a cause; this state is handed back.
-    pub fn refused(cause: Cause, sections: Sections) -> Outcome
-        ensures { result ≡ refused_outcome (number_of_cause cause) sections }
+    // Refused by any number; this state is handed back.
+    pub fn refused(number: u32, sections: Sections) -> Outcome
+        ensures { result ≡ refused_outcome number sections }
     {
         Outcome {
-            answer: Answer::from(Refusal::of(cause)),
+            answer: Answer::refused(number),
             sections,
         }
     }
@@ -46,7 +45,7 @@ impl Outcome {
                 answer: Answer::done_at(start),
                 sections: next,
             },
-            Err(cause) => Outcome::refused(cause, sections),
+            Err(cause) => Outcome::refused(cause.number(), sections),
         }
     }
 }
@@ -172,7 +171,7 @@ impl Sections {
         ensures { result ≡ reset_of self }
     {
         if !self.is_valid() {
-            return Outcome::refused(Cause::SectionsNotValid, self);
+            return Outcome::refused(Answer::SECTIONS_NOT_VALID, self);
         }
         let next = Sections {
             temp: self.head,

@@ -4,10 +4,36 @@
 use crate::fault::Fault;
 use crate::text;
 use arena_sections::Sections;
-use std::alloc::Global;
 
 // The words or bytes that a table of a vector may have: a little more than the longest script has, of 16,384 touches in four words each.
 const ROOM: usize = 66000;
+
+// A table of words, and one of bytes.
+type Words = [i32; ROOM];
+
+type Bytes = [u8; ROOM];
+
+// As many tables as a vector needs at most. They are long, so that they are made once, and each vector reads into them and lends them anew.
+#[derive(Drop)]
+pub struct Tables {
+    pub(crate) first_words: Words,
+    pub(crate) second_words: Words,
+    pub(crate) third_words: Words,
+    pub(crate) first_bytes: Bytes,
+    pub(crate) second_bytes: Bytes,
+}
+
+impl Tables {
+    pub(crate) fn new() -> Tables {
+        Tables {
+            first_words: arrays::filled(0),
+            second_words: arrays::filled(0),
+            third_words: arrays::filled(0),
+            first_bytes: arrays::filled(0),
+            second_bytes: arrays::filled(0),
+        }
+    }
+}
 
 // What stands in a column of a row.
 #[derive(Clone, Copy)]
@@ -19,7 +45,6 @@ enum Column {
 // The fields of a vector that are still to be read. There are none in a line without a colon.
 #[derive(Drop)]
 pub struct Fields<'a> {
-    alloc: Global,
     rest: Option<&'a [u8]>,
 }
 
@@ -40,26 +65,23 @@ fn times_and_row(entry: &[u8]) -> Option<(i32, &[u8])> {
     }
 }
 
-// Adds the rows of an entry to a table, if there is room for them.
-fn add_entry(table: &mut Vec<i32>, entry: &[u8]) -> Result<(), Fault> {
+// Writes the rows of an entry behind the words that a table has so far, if there is room for them, and gives how many it has then. The columns are read
+// anew for each row, so that they need no room of their own, and once before, since they are to be columns where the row stands no times too.
+fn add_entry(table: &mut Words, mut count: usize, entry: &[u8]) -> Result<usize, Fault> {
     let (times, row) = times_and_row(entry).ok_or(Fault::NotVector)?;
-    let alloc = *table.allocator();
-    let columns: Vec<Column> = row
-        .split(|byte| *byte == b',')
-        .map(read_column)
-        .try_collect(alloc)?;
+    for column in row.split(|byte| *byte == b',').map(read_column) {
+        column?;
+    }
     for number in 0..times {
-        for column in columns.iter() {
-            if table.len() == ROOM {
-                return Err(Fault::NotVector);
-            }
-            table.push(match *column {
+        for column in row.split(|byte| *byte == b',').map(read_column) {
+            *table.get_mut(count).ok_or(Fault::NotVector)? = match column? {
                 Column::RowNumber => number,
                 Column::Word(word) => word,
-            })?;
+            };
+            count += 1;
         }
     }
-    Ok(())
+    Ok(count)
 }
 
 // The word as a byte: what is left of it by 256, where one below 0 stands for 255.
@@ -68,8 +90,8 @@ fn byte_of(word: i32) -> u8 {
 }
 
 impl<'a> Fields<'a> {
-    pub(crate) fn new(alloc: Global, body: Option<&'a [u8]>) -> Fields<'a> {
-        Fields { alloc, rest: body }
+    pub(crate) fn new(body: Option<&'a [u8]>) -> Fields<'a> {
+        Fields { rest: body }
     }
 
     fn next(&mut self) -> Result<&'a [u8], Fault> {
@@ -84,21 +106,29 @@ impl<'a> Fields<'a> {
         Ok(field.strip_prefix(b" ").unwrap_or(field))
     }
 
-    // Reads a field that is a table of words.
-    pub(crate) fn words(&mut self) -> Result<Vec<i32>, Fault> {
-        let mut table = Vec::new(self.alloc);
+    // Reads a field that is a table of words into a lent one, and gives the words read.
+    pub(crate) fn words<'t>(&mut self, table: &'t mut Words) -> Result<&'t [i32], Fault> {
+        let mut count = 0;
         for entry in self.next()?.split(|byte| *byte == b' ') {
             if !entry.is_empty() {
-                add_entry(&mut table, entry)?;
+                count = add_entry(table, count, entry)?;
             }
         }
-        Ok(table)
+        table.get(..count).ok_or(Fault::NotVector)
     }
 
-    // Reads a field that is a table of bytes.
-    pub(crate) fn bytes(&mut self) -> Result<Vec<u8>, Fault> {
-        let words = self.words()?;
-        Ok(words.iter().map(|word| byte_of(*word)).collect(self.alloc)?)
+    // Reads a field that is a table of bytes into a lent one, over a lent table of words, and gives the bytes read.
+    pub(crate) fn bytes<'t>(
+        &mut self,
+        room: &mut Words,
+        table: &'t mut Bytes,
+    ) -> Result<&'t [u8], Fault> {
+        let words = self.words(room)?;
+        let bytes = table.get_mut(..words.len()).ok_or(Fault::NotVector)?;
+        for (byte, word) in bytes.iter_mut().zip(words) {
+            *byte = byte_of(*word);
+        }
+        Ok(bytes)
     }
 
     // Reads a field that is a number of up to 64 bits.
@@ -116,13 +146,18 @@ impl<'a> Fields<'a> {
         decimal_text::signed(self.single()?).ok_or(Fault::NotVector)
     }
 
-    // Reads a field that is a length, and gives a table as long, of one entry again and again.
-    pub(crate) fn lent<T: Copy>(&mut self, entry: T) -> Result<Vec<T>, Fault> {
+    // Reads a field that is a length, and lends so much of a table, of one entry again and again.
+    pub(crate) fn lent<'t, T: Copy>(
+        &mut self,
+        entry: T,
+        table: &'t mut [T; ROOM],
+    ) -> Result<&'t mut [T], Fault> {
         let length = self.long()? as usize;
-        if ROOM < length {
-            return Err(Fault::NotVector);
+        let lent = table.get_mut(..length).ok_or(Fault::NotVector)?;
+        for place in lent.iter_mut() {
+            *place = entry;
         }
-        Ok(vec![in self.alloc; entry; length]?)
+        Ok(lent)
     }
 
     // Reads a state of the sections: head; temp; tail; usable.

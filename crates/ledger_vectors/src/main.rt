@@ -6,9 +6,9 @@
 mod read;
 
 use arena_sections::Sections;
+use read::Numbers;
 use recording_rule::{Ledger, Recording};
 use std::io;
-use std::io::Read;
 
 // A vector has this many numbers.
 const VECTOR_NUMBERS: usize = 26;
@@ -17,7 +17,7 @@ const VECTOR_NUMBERS: usize = 26;
 const GREATEST_ROOM: usize = 300;
 
 // The most bytes of input that are read.
-const INPUT_BYTES: u64 = 65536;
+const INPUT_BYTES: usize = 65536;
 
 // The answer and the sections, in a line. The libraries print nothing, so that their types have no `Display`.
 fn print_outcome(rt: &impl Print, recording: Recording) -> io::Result<()> {
@@ -66,12 +66,15 @@ fn run(rt: &impl Print, vector: &[u32; VECTOR_NUMBERS]) -> io::Result<()> {
 }
 
 fn main(rt: HostRuntime) -> io::Result<()> {
-    let mut input = Vec::new(rt.alloc());
-    rt.stdin().take(INPUT_BYTES).read_to_end(&mut input)?;
-    let numbers = read::numbers(rt.alloc(), &input)?;
-    let (vectors, _) = numbers.as_chunks::<VECTOR_NUMBERS>();
-    for vector in vectors {
-        run(&rt, vector)?;
+    let mut input = arrays::filled::<u8, INPUT_BYTES>(0);
+    let length = read::read_full(&mut rt.stdin(), &mut input)?;
+    let mut numbers = Numbers(&input[..length]);
+    // more turns than there are vectors, since a number takes a byte at least
+    for _ in 0..length {
+        let Some(vector) = read::vector(&mut numbers) else {
+            break;
+        };
+        run(&rt, &vector)?;
     }
     Ok(())
 }

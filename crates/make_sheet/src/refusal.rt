@@ -1,5 +1,4 @@
 // Why a text gives no sheet.
-use std::alloc::{AllocError, AllocFailed};
 use std::fmt;
 
 #[derive(Clone, Copy)]
@@ -26,24 +25,5 @@ impl fmt::Display for Reason {
             Reason::NoSpace => "no space given",
             Reason::TooLong => "text too long",
         })
-    }
-}
-
-// Why there is no sheet: a line is refused, or no memory is left.
-#[derive(Drop)]
-pub enum Fault {
-    Refused(Reason),
-    NoMemory(AllocError),
-}
-
-impl From<Reason> for Fault {
-    fn from(reason: Reason) -> Fault {
-        Fault::Refused(reason)
-    }
-}
-
-impl<T: Drop> From<AllocFailed<T>> for Fault {
-    fn from(failed: AllocFailed<T>) -> Fault {
-        Fault::NoMemory(AllocError::from(failed))
     }
 }

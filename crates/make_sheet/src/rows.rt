@@ -14,6 +14,9 @@ const MOMENTS_COLUMN: usize = DIMENSIONS_COLUMN + GREATEST_DIMENSIONS;
 // In a line the type code, the moments and the offset stand before the dimensions, so that the line need not tell their number.
 const LEADING_WORDS: usize = 4;
 
+// The words of the longest such line.
+const GREATEST_LINE: usize = LEADING_WORDS + GREATEST_DIMENSIONS;
+
 #[derive(Clone, Copy, PartialEq)]
 pub enum Form {
     Sizes,
@@ -24,6 +27,13 @@ pub enum Form {
 pub enum Row {
     Size([i32; ROW_WORDS]),
     Shape([i32; SHAPE_WORDS]),
+}
+
+// What stands where there is no row yet.
+impl Default for Row {
+    fn default() -> Row {
+        Row::Size([0; ROW_WORDS])
+    }
 }
 
 impl Row {
@@ -42,18 +52,18 @@ impl Row {
     }
 }
 
-// The numbers that so many words spell.
-fn numbers<const N: usize>(words: &mut Words<'_>) -> Option<[i32; N]> {
-    let mut numbers = arrays::filled(0);
-    for number in &mut numbers {
+// Reads the numbers that as many words spell as there are entries.
+fn read_numbers(words: &mut Words<'_>, numbers: &mut [i32]) -> Option<()> {
+    for number in numbers {
         *number = decimal_text::signed(words.next()?)?;
     }
-    Some(numbers)
+    Some(())
 }
 
 // The row of a size that the words of a line spell: four numbers and no more.
 pub(crate) fn size(mut words: Words<'_>) -> Option<Row> {
-    let row = numbers(&mut words)?;
+    let mut row = [0; ROW_WORDS];
+    read_numbers(&mut words, &mut row)?;
     if words.next().is_some() {
         return None;
     }
@@ -61,14 +71,17 @@ pub(crate) fn size(mut words: Words<'_>) -> Option<Row> {
 }
 
 // The row of a shape that the words behind `shape` spell: four numbers, then up to eight dimensions and no more. A dimension past their number is written
-// as 0.
+// as 0. Of the words that are too many only the first is counted.
 pub(crate) fn shape(mut words: Words<'_>) -> Option<Row> {
-    let count = words.count().checked_sub(LEADING_WORDS)?;
-    let [code, first, last, offset] = numbers::<LEADING_WORDS>(&mut words)?;
+    let count = words
+        .take(GREATEST_LINE + 1)
+        .count()
+        .checked_sub(LEADING_WORDS)?;
+    let mut leading = [0; LEADING_WORDS];
+    read_numbers(&mut words, &mut leading)?;
+    let [code, first, last, offset] = leading;
     let mut dimensions = [0; GREATEST_DIMENSIONS];
-    for (dimension, word) in dimensions.get_mut(..count)?.iter_mut().zip(words) {
-        *dimension = decimal_text::signed(word)?;
-    }
+    read_numbers(&mut words, dimensions.get_mut(..count)?)?;
     let mut row = [0; SHAPE_WORDS];
     row[0] = code;
     row[NUMBER_COLUMN] = i32::try_from(count).ok()?;

@@ -1,36 +1,42 @@
 // A request sheet, made entry by entry.
-ghost use Rattle.std.specs.Prelude.{◌≤◌, vec_len};
-ghost use Rattle.request_table.specs.Limits.{greatest_rows};
-
-use crate::refusal::{Fault, Reason};
+use crate::refusal::Reason;
 use crate::rows::{Form, Row};
 use crate::text;
 use crate::text::Entry;
+use arrayvec::ArrayVec;
 use request_table::GREATEST_ROWS;
-use std::alloc::{AllocError, Global};
+use shape_rule::SHAPE_WORDS;
 use std::io;
+use std::io::Write;
 
-// What the lines so far gave.
+// The bytes of the mark, the version, the number of rows and the space.
+const HEADER_BYTES: usize = 11;
+
+const WORD_BYTES: usize = 4;
+
+// The bytes of the longest sheet, which has the most rows in the longer form.
+const GREATEST_SHEET: usize = HEADER_BYTES + WORD_BYTES * SHAPE_WORDS * GREATEST_ROWS;
+
+// As many rows as a sheet holds, in memory that the program lends.
+pub type Rows = ArrayVec<Row, GREATEST_ROWS>;
+
+// What the lines so far gave. The rows stand in the program's own memory, so that none is asked for.
 #[derive(Drop)]
-pub struct Progress {
-    rows: Vec<Row>,
+pub struct Progress<'a> {
+    rows: &'a mut Rows,
     space: Option<u32>,
-    ghost few_rows: { vec_len rows ≤ greatest_rows },
 }
 
-#[derive(Drop)]
-pub struct Sheet {
-    rows: Vec<Row>,
+#[derive(Clone, Copy)]
+pub struct Sheet<'a> {
+    rows: &'a Rows,
     space: u32,
-    ghost few_rows: { vec_len rows ≤ greatest_rows },
 }
 
-impl Progress {
-    pub(crate) fn new(alloc: Global) -> Progress {
-        Progress {
-            rows: Vec::new(alloc),
-            space: None,
-        }
+impl<'a> Progress<'a> {
+    // The rows are to be none yet.
+    pub(crate) fn new(rows: &'a mut Rows) -> Progress<'a> {
+        Progress { rows, space: None }
     }
 
     fn add_space(&mut self, space: u32) -> Result<(), Reason> {
@@ -40,38 +46,33 @@ impl Progress {
         }
     }
 
-    fn add_row(&mut self, row: Row) -> Result<(), Fault> {
+    fn add_row(&mut self, row: Row) -> Result<(), Reason> {
         if let Some(first) = self.rows.first()
             && first.form() != row.form()
         {
-            return Err(Fault::Refused(Reason::BothForms));
+            return Err(Reason::BothForms);
         }
-        if self.rows.len() >= GREATEST_ROWS {
-            return Err(Fault::Refused(Reason::TooManyRows));
-        }
-        self.rows.push(row)?;
-        Ok(())
+        self.rows.try_push(row).map_err(|_| Reason::TooManyRows)
     }
 
     // Takes a line. One that says nothing adds nothing.
-    pub(crate) fn add_line(&mut self, line: &[u8]) -> Result<(), Fault> {
+    pub(crate) fn add_line(&mut self, line: &[u8]) -> Result<(), Reason> {
         match text::entry_of(line)? {
-            Some(Entry::Space(space)) => self.add_space(space)?,
-            Some(Entry::Row(row)) => self.add_row(row)?,
-            None => {}
+            Some(Entry::Space(space)) => self.add_space(space),
+            Some(Entry::Row(row)) => self.add_row(row),
+            None => Ok(()),
         }
-        Ok(())
     }
 
     // The sheet, if a line gave the space.
-    pub(crate) fn finish(self) -> Result<Sheet, Fault> {
+    pub(crate) fn finish(self) -> Result<Sheet<'a>, Reason> {
         let Progress { rows, space } = self;
         let space = space.ok_or(Reason::NoSpace)?;
         Ok(Sheet { rows, space })
     }
 }
 
-impl Sheet {
+impl Sheet<'_> {
     // The version goes by the form of the rows. A sheet without rows has version 1.
     fn version(&self) -> u16 {
         match self.rows.first().map(Row::form) {
@@ -80,23 +81,24 @@ impl Sheet {
         }
     }
 
-    // The mark, the version, the number of rows, the space and the rows. Of each number the lowest byte comes first.
-    fn bytes(&self, alloc: Global) -> Result<Vec<u8>, AllocError> {
-        let mut bytes = Vec::new(alloc);
-        bytes.extend_from_slice(b"ARN")?;
-        bytes.extend_from_slice(&self.version().to_le_bytes())?;
-        bytes.extend_from_slice(&(self.rows.len() as u16).to_le_bytes())?;
-        bytes.extend_from_slice(&self.space.to_le_bytes())?;
-        for row in self.rows.iter() {
+    // The mark, the version, the number of rows, the space and the rows. Of each number the lowest byte comes first. It fails only where the bytes have no
+    // room for a sheet.
+    fn write_to(&self, bytes: &mut impl Write) -> io::Result<()> {
+        bytes.write_all(b"ARN")?;
+        bytes.write_all(&self.version().to_le_bytes())?;
+        bytes.write_all(&(self.rows.len() as u16).to_le_bytes())?;
+        bytes.write_all(&self.space.to_le_bytes())?;
+        for row in self.rows.as_slice() {
             for word in row.words() {
-                bytes.extend_from_slice(&word.to_le_bytes())?;
+                bytes.write_all(&word.to_le_bytes())?;
             }
         }
-        Ok(bytes)
+        Ok(())
     }
 
-    pub(crate) fn write(&self, rt: &(impl Print + AllocGlobal)) -> io::Result<()> {
-        let bytes = self.bytes(rt.alloc())?;
+    pub(crate) fn write(&self, rt: &impl Print) -> io::Result<()> {
+        let mut bytes = ArrayVec::<u8, GREATEST_SHEET>::new();
+        self.write_to(&mut bytes)?;
         rt.write_all(bytes.as_slice())
     }
 }

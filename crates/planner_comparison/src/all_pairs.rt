@@ -1,8 +1,8 @@
 // A plan judged directly: every row by itself, then every two. This is what the inspector is compared with.
-use crate::refusal::{self, Refusal, Stop};
-use crate::rows::{self, Buffer, Request};
+use crate::refusal::{self, Refusal};
+use crate::rows::{self, Request};
 use answer::Answer;
-use std::alloc::{AllocError, Global};
+use arrayvec::ArrayVec;
 
 // The first two that meet, if any do.
 pub(crate) fn first_pair<T, F: Fn(&T, &T) -> bool>(items: &[T], meet: F) -> Option<(usize, usize)>
@@ -17,58 +17,54 @@ pub(crate) fn first_pair<T, F: Fn(&T, &T) -> bool>(items: &[T], meet: F) -> Opti
     None
 }
 
-// The greatest end of a row that takes bytes, or 0.
-pub(crate) fn need(buffers: &[Buffer]) -> u64 {
-    buffers
+// The greatest end of a placed row that takes bytes, or 0.
+pub(crate) fn need(rows: &[Request]) -> u64 {
+    let end = rows
         .iter()
+        .filter_map(Request::placed)
         .filter(|buffer| buffer.start < buffer.end)
         .map(|buffer| buffer.end)
-        .max()
-        .unwrap_or(0)
+        .max();
+    end.map_or(0, rows::bytes)
 }
 
 // The need, or the numbers 7 and 10.
-fn judge_buffers(space: u32, buffers: &[Buffer]) -> Result<u64, Refusal> {
-    let need = need(buffers);
+fn judge_placed(space: u32, rows: &[Request]) -> Result<u64, Refusal> {
+    let need = need(rows);
     if u64::from(space) < need {
         return Err(Refusal::NeedExceedsSpace(need));
     }
-    match first_pair(buffers, Buffer::meets) {
+    match first_pair(rows, Request::meets) {
         Some((a, b)) => Err(Refusal::RowsCollide(a, b)),
         None => Ok(need),
     }
 }
 
-// The rows at their offsets, or the numbers 8 and 9.
-fn proposed(alloc: Global, rows: &[Request], offsets: &[i32]) -> Result<Vec<Buffer>, Stop> {
+// Puts the rows at their offsets, or tells the numbers 8 and 9.
+fn propose(rows: &mut [Request], offsets: &[i32]) -> Result<(), Refusal> {
     let moved = rows
         .iter()
         .zip(offsets)
         .position(|(request, offset)| request.is_moved(*offset));
     if let Some(row) = moved {
-        return Err(Refusal::FixedRowMoved(row).into());
+        return Err(Refusal::FixedRowMoved(row));
     }
-    let mut buffers = Vec::with_capacity(alloc, rows.len())?;
-    for (row, (request, offset)) in rows.iter().zip(offsets).enumerate() {
-        let start = rows::step(*offset).ok_or(Refusal::BadOffset(row))?;
-        buffers.push(request.at(u64::from(start)))?;
+    for (row, (request, offset)) in rows.iter_mut().zip(offsets).enumerate() {
+        let place = rows::place(*offset).ok_or(Refusal::BadOffset(row))?;
+        request.place = Some(place);
     }
-    Ok(buffers)
+    Ok(())
 }
 
 // The need of a plan, or what document 01 refuses it for.
-fn need_of_plan(alloc: Global, requests: &[i32], space: u32, offsets: &[i32]) -> Result<u64, Stop> {
-    let rows = rows::read(alloc, requests, space, offsets.len())?;
-    let buffers = proposed(alloc, &rows, offsets)?;
-    Ok(judge_buffers(space, &buffers)?)
+fn need_of_plan(requests: &[i32], space: u32, offsets: &[i32]) -> Result<u64, Refusal> {
+    let mut rows = ArrayVec::new();
+    rows::read(requests, space, offsets.len(), &mut rows)?;
+    propose(&mut rows, offsets)?;
+    judge_placed(space, &rows)
 }
 
 // What the inspector is to answer.
-pub(crate) fn judge(
-    alloc: Global,
-    requests: &[i32],
-    space: u32,
-    offsets: &[i32],
-) -> Result<Answer, AllocError> {
-    refusal::tell(need_of_plan(alloc, requests, space, offsets))
+pub(crate) fn judge(requests: &[i32], space: u32, offsets: &[i32]) -> Answer {
+    refusal::tell(need_of_plan(requests, space, offsets))
 }

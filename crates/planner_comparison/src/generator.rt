@@ -4,10 +4,12 @@ ghost use Rattle.std.specs.Prelude.{◌≤◌};
 
 use crate::draw::{self, Purpose};
 use crate::rows::GREATEST_ROWS;
-use std::alloc::{AllocError, Global};
 
 // Each kind of sizes, lives, offsets, length and faults with each, 5 by 4 by 4 by 4 by 8, twice.
 pub(crate) const TABLES: u32 = 5120;
+
+// Words enough for three rows more than are allowed, and three words.
+pub(crate) const GREATEST_WORDS: usize = 4 * GREATEST_ROWS + 15;
 
 const SPACES: [u32; 4] = [512, 2048, 16384, 16777216];
 
@@ -243,22 +245,30 @@ impl Kind {
         }
     }
 
-    // The table's rows, of which up to two are bad where it is to have bad ones, and up to three words more where it is to have those.
-    fn requests(&self, alloc: Global) -> Result<Vec<i32>, AllocError> {
-        let mut words = Vec::new(alloc);
-        for row in 0..self.rows() {
-            words.extend_from_slice(&self.row(row))?;
+    // How many words: those of the rows, and up to three more where the table is to have a part of a row.
+    fn words(&self) -> usize {
+        let whole = self.rows() as usize * 4;
+        if self.has(Fault::PartOfARow) {
+            return whole + 1 + self.below(3, Purpose::MoreWords) as usize;
+        }
+        whole
+    }
+
+    // The table's rows and the words of a part of a row, in the first of the words that are lent. Up to two rows are bad where the table is to have bad ones;
+    // where it has no rows, that is the part of one.
+    fn requests<'a>(&self, words: &'a mut [i32; GREATEST_WORDS]) -> &'a [i32] {
+        let length = self.words().min(GREATEST_WORDS);
+        let requests = &mut words[..length];
+        requests.fill(0);
+        let (table, _) = requests.as_chunks_mut::<4>();
+        for (row, words) in (0..self.rows()).zip(table) {
+            *words = self.row(row);
         }
         if self.has(Fault::BadRows) {
-            self.spoil(Purpose::BadRow, &mut words);
-            self.spoil(Purpose::OtherBadRow, &mut words);
+            self.spoil(Purpose::BadRow, requests);
+            self.spoil(Purpose::OtherBadRow, requests);
         }
-        if self.has(Fault::PartOfARow) {
-            for _ in 0..1 + self.below(3, Purpose::MoreWords) {
-                words.push(0)?;
-            }
-        }
-        Ok(words)
+        requests
     }
 }
 
@@ -268,24 +278,25 @@ fn word(number: u32) -> i32 {
 }
 
 // A table, how many rows it has, the space that it is planned in, and how many offsets are lent.
-#[derive(Drop)]
-pub struct Table {
+#[derive(Clone, Copy)]
+pub struct Table<'a> {
     pub number: u32,
     pub rows: u32,
-    pub requests: Vec<i32>,
+    pub requests: &'a [i32],
     pub space: u32,
     pub room: usize,
 }
 
-impl Table {
-    pub(crate) fn new(alloc: Global, number: u32) -> Result<Table, AllocError> {
+impl<'a> Table<'a> {
+    // The table of that number, its requests in the words that are lent.
+    pub(crate) fn new(number: u32, words: &'a mut [i32; GREATEST_WORDS]) -> Table<'a> {
         let kind = Kind::of(number);
-        Ok(Table {
+        Table {
             number,
             rows: kind.rows(),
-            requests: kind.requests(alloc)?,
+            requests: kind.requests(words),
             space: kind.space(),
             room: kind.room(),
-        })
+        }
     }
 }

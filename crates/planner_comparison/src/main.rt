@@ -4,7 +4,6 @@
 
 use answer::Answer;
 use generator::Table;
-use std::alloc::{AllocError, Global};
 use std::io;
 use tally::Tally;
 
@@ -19,25 +18,25 @@ mod second_planner;
 mod tally;
 
 // Plans a table in its own space and, where that is done, in the space that it needs, and in one byte less.
-fn run(alloc: Global, number: u32, tally: &mut Tally) -> Result<(), AllocError> {
-    let table = Table::new(alloc, number)?;
+fn run(number: u32, words: &mut [i32; generator::GREATEST_WORDS], tally: &mut Tally) {
+    let table = Table::new(number, words);
     tally.add_table(table.requests.len() == 4 * rows::GREATEST_ROWS);
-    let answer = compare::plan(alloc, &table, table.space, tally)?;
+    let answer = compare::plan(&table, table.space, tally);
     if answer.number != Answer::DONE {
-        return Ok(());
+        return;
     }
     let need = u32::try_from(answer.need).unwrap_or(u32::MAX);
     if let Some(less) = need.checked_sub(1) {
-        compare::plan(alloc, &table, need, tally)?;
-        compare::plan(alloc, &table, less, tally)?;
+        compare::plan(&table, need, tally);
+        compare::plan(&table, less, tally);
     }
-    Ok(())
 }
 
 fn main(rt: HostRuntime) -> io::Result<()> {
+    let mut words = arrays::filled(0);
     let mut tally = Tally::default();
     for number in 0..generator::TABLES {
-        run(rt.alloc(), number, &mut tally)?;
+        run(number, &mut words, &mut tally);
     }
     println!(rt; "{tally}")
 }

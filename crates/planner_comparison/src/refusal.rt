@@ -1,6 +1,5 @@
 // Why document 01 refuses a table or a plan, read from it anew, and the answers that tell it.
 use answer::Answer;
-use std::alloc::{AllocError, AllocFailed};
 
 // The rows that are told, or the need.
 #[derive(Clone, Copy)]
@@ -15,31 +14,6 @@ pub enum Refusal {
     FixedRowMoved(usize),
     BadOffset(usize),
     RowsCollide(usize, usize),
-}
-
-// Why there is no plan or no verdict: a refusal, or no memory to work it out in.
-#[derive(Clone, Copy)]
-pub enum Stop {
-    Refused(Refusal),
-    OutOfMemory(AllocError),
-}
-
-impl From<Refusal> for Stop {
-    fn from(refusal: Refusal) -> Stop {
-        Stop::Refused(refusal)
-    }
-}
-
-impl From<AllocError> for Stop {
-    fn from(error: AllocError) -> Stop {
-        Stop::OutOfMemory(error)
-    }
-}
-
-impl<T: Drop> From<AllocFailed<T>> for Stop {
-    fn from(failed: AllocFailed<T>) -> Stop {
-        Stop::OutOfMemory(failed.into())
-    }
 }
 
 // An answer, with a number of document 01. A row whose number is no 32 bits is told as the greatest, which no answer of the planner has.
@@ -67,10 +41,9 @@ impl From<Refusal> for Answer {
 }
 
 // The answer to what was worked out: 0 with the need, or the refusal's.
-pub(crate) fn tell(outcome: Result<u64, Stop>) -> Result<Answer, AllocError> {
+pub(crate) fn tell(outcome: Result<u64, Refusal>) -> Answer {
     match outcome {
-        Ok(need) => Ok(told(0, 0, 0, need)),
-        Err(Stop::Refused(refusal)) => Ok(refusal.into()),
-        Err(Stop::OutOfMemory(error)) => Err(error),
+        Ok(need) => told(0, 0, 0, need),
+        Err(refusal) => refusal.into(),
     }
 }

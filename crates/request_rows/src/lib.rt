@@ -16,7 +16,8 @@ use units::{Moment, Offset, Row};
 // The last moment that a row may name.
 pub const LAST_MOMENT: u32 = 65535;
 
-// Where the word of a column stands. A row past the table gives a place past it too, where every word reads as 0.
+// Where the word of a column stands. A row past the table gives a place past it too, where every word reads as 0. Both places are worked out alike, so
+// that the row is compared with the table once for all its columns.
 fn place_of(table: &[i32], row: Row, column: usize) -> usize
     requires { column < 4 }
     ensures { word_at table.now result ≡ word_of table.now row.0 column }
@@ -24,7 +25,7 @@ fn place_of(table: &[i32], row: Row, column: usize) -> usize
     if row.0 < table.len() {
         return row.0 * ROW_WORDS + column;
     }
-    table.len()
+    table.len() * ROW_WORDS + column
 }
 
 // The offset that the word at a place fixes; −1 fixes none.

@@ -32,7 +32,7 @@ fn check_content(table: &Table, space: u32) -> Result<(), Refusal>
     let bad = table.lowest_bad_row();
     let too_large = GREATEST_SPACE < space;
     if too_large {
-        return Err(Refusal::of(Cause::SpaceTooLarge));
+        return Err(Refusal::at(Cause::SpaceTooLarge, 0));
     }
     if let Some(row) = bad {
         return Err(Refusal::at(Cause::BadRow, row.0 as u32));

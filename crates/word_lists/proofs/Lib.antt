@@ -1,3 +1,2 @@
-pub mod Stopped
 pub mod Turns
 pub mod WordsComeBack

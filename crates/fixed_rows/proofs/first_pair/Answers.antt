@@ -27,7 +27,7 @@ scan-preserved-then-not-fixed c =
     let i = c.scan.invariant in
     let t = c.args.table.now.words.now in
     let loose : c.is_some-fixed.result ≡ false = search rules in
-    let f : fixed t c.scan.a ≡ false = sym (fixed_is t c.scan.a) ∙ ap (λ (x : Request). is_some x.offset) (sym c.request.ensures) ∙ sym c.is_some-fixed.ensures ∙ loose in
+    let f : fixed t c.scan.a ≡ false = sym (fixed_is t c.scan.a) ∙ ap (λ (x : Request). is_some x.offset) (sym c.request-first.ensures) ∙ sym c.is_some-fixed.ensures ∙ loose in
     (loose_passed _ t _ _ f c.scan-test.true i.0, i.1)
 
 pub returns-after-scan : goal.returns-after-scan

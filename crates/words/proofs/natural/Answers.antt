@@ -1,11 +1,14 @@
--- `words::natural` meets its contract: the conversion holds the word where it is from 0 on, and else the greatest number stands.
+-- `words::natural` meets its contract: by the word's sign.
 use Rattle.std.proofs.Common.{ap, ◌∙◌}
 use Rattle.words.specs.Words.{natural}
-use Rattle.words.proofs.Signed.{read, tried}
+use Rattle.words.proofs.Signed.{read, negative, itself}
 use Rattle.words.proofs.natural.Goals as goal
+
+pub returns-then-word-lt0 : goal.returns-then-word-lt0
+returns-then-word-lt0 c =
+    negative c.word_at-word.result (rw (read c.word_at-word.result c.word_at-word.type_inv) at c.if-word-lt0.true) ∙ ap natural c.word_at-word.ensures
 
 pub returns : goal.returns
 returns c =
-    let small = c.word_at.type_inv in
-    let held = rw (read c.word_at.result small) at c.try_from.ensures in
-    c.unwrap_or.ensures ∙ tried c.word_at.result c.try_from.result small held ∙ ap natural c.word_at.ensures
+    let back = read c.word_at-word.result c.word_at-word.type_inv in
+    rw back (itself c.word_at-word.result (rw back at c.if-word-lt0.false) ∙ ap natural c.word_at-word.ensures)
