@@ -174,7 +174,7 @@ impl Answer {
         answer
     }
 
-    // Refused by any number, with nothing carried. These four are for callers that have a number; code of the libraries has a cause, and makes a `Refusal`.
+    // Refused by any number, with nothing carried. These four are for callers that have a number; whoever has a cause makes a `Refusal`.
     pub fn refused(number: u32) -> Answer
         ensures { result ≡ refused_by number }
     {
@@ -211,6 +211,53 @@ impl Answer {
         answer
     }
 }
+
+// The numbers of the document's list, by which alone a caller may know a refusal.
+const _: () = prove!(Answer::NOT_WHOLE_ROWS == 1);
+
+const _: () = prove!(Answer::TOO_MANY == 2);
+
+const _: () = prove!(Answer::TABLE_TOO_SHORT == 3);
+
+const _: () = prove!(Answer::SPACE_TOO_LARGE == 4);
+
+const _: () = prove!(Answer::BAD_ROW == 5);
+
+const _: () = prove!(Answer::FIXED_ROWS_COLLIDE == 6);
+
+const _: () = prove!(Answer::NEED_EXCEEDS_SPACE == 7);
+
+const _: () = prove!(Answer::FIXED_ROW_MOVED == 8);
+
+const _: () = prove!(Answer::BAD_OFFSET == 9);
+
+const _: () = prove!(Answer::ROWS_COLLIDE == 10);
+
+const _: () = prove!(Answer::BAD_ACCESS == 11);
+
+const _: () = prove!(Answer::ARENA_TOO_SHORT == 12);
+
+const _: () = prove!(Answer::SECTIONS_NOT_VALID == 13);
+
+const _: () = prove!(Answer::BAD_ALIGNMENT == 14);
+
+const _: () = prove!(Answer::NO_ROOM == 15);
+
+const _: () = prove!(Answer::TEMPORARIES_OUT == 16);
+
+const _: () = prove!(Answer::HEAD_MADE_SMALLER == 17);
+
+const _: () = prove!(Answer::WRONG_LENGTH == 18);
+
+const _: () = prove!(Answer::OTHER_TENSOR_COUNT == 19);
+
+const _: () = prove!(Answer::TENSOR_NEVER_NAMED == 20);
+
+const _: () = prove!(Answer::READ_BEFORE_WRITTEN == 21);
+
+const _: () = prove!(Answer::BAD_TYPE_CODE == 24);
+
+const _: () = prove!(Answer::BAD_ALLOCATION_KIND == 25);
 
 // A refusal, told to the caller.
 impl From<Refusal> for Answer {

@@ -28,8 +28,8 @@ pub fn buffer_at(grid: u32, request: Request, offset: Offset) -> Buffer
     }
 }
 
-// Both ends of a life count. Both comparisons are made, here and in `collide`, whatever the first says: of lives that nobody foresees one in two is guessed
-// wrong where a comparison is cut short, and the inspector asks this of every two rows.
+// Both ends of a life count. Both comparisons are made, here and in `collide`, whatever the first says: the inspector asks this of every two rows, and where a
+// comparison is cut short a processor guesses one in two of them wrong.
 #[tactic(auto, unfolding(request_table::specs::Buffers::live_together))]
 pub fn live_together(a: Buffer, b: Buffer) -> bool
     ensures { result ≡ live_together a b }

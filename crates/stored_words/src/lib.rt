@@ -5,14 +5,13 @@
 ghost use Rattle.std.specs.Prelude.{◌≡◌, ◌+◌, set};
 ghost use Rattle.word_bytes.specs.Bytes.{unsigned_word, with_word};
 
-// Sets the byte some way ahead of a place. Where the sum of the two does not fit, the greatest number stands for it, which is outside every slice as well.
-// The place is compared here, since the library's `get_mut` does not say what the slice ends as, so that the contract does not follow from it.
+// Sets the byte some way ahead of a place. The way is compared with what there is from the place on, as in `word_bytes`; it is compared here, since the
+// library's `get_mut` does not say what the slice ends as, so that the contract does not follow from it.
 fn put_byte(bytes: &mut [u8], at: usize, ahead: usize, value: u8)
     ensures { bytes.new ≡ set bytes.old (at + ahead) value }
 {
-    let place = at.saturating_add(ahead);
-    if place < bytes.len() {
-        bytes[place] = value;
+    if ahead < bytes.len().saturating_sub(at) {
+        bytes[at + ahead] = value;
     }
 }
 

@@ -5,11 +5,15 @@
 ghost use Rattle.std.specs.Prelude.{◌≡◌, ◌+◌, get_or};
 ghost use Rattle.word_bytes.specs.Bytes.{little_endian, signed_word, word_of};
 
-// The byte some way ahead of a place. Where the sum of the two does not fit, the greatest number stands for it, which is outside every slice as well.
+// The byte some way ahead of a place. The way is compared with what there is from the place on, since the sum of the two may not fit, and so that a compiler
+// sees that a table of words is one block.
 fn byte(bytes: &[u8], at: usize, ahead: usize) -> u8
     ensures { result ≡ get_or bytes.now (at + ahead) 0 }
 {
-    bytes.get(at.saturating_add(ahead)).copied().unwrap_or(0)
+    if ahead < bytes.len().saturating_sub(at) {
+        return bytes[at + ahead];
+    }
+    0
 }
 
 // The two bytes from a place on, the lowest first, as an unsigned number.
