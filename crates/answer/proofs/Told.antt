@@ -1,5 +1,5 @@
 -- Laws of refusals as answers.
-use Rattle.std.specs.Prelude.{ℕ, true, false, ◌==◌, ◌≡◌, refl}
+use Rattle.std.specs.Prelude.{ℕ, cond, ◌==◌, ◌≡◌, refl}
 use Rattle.std.proofs.Common.{sym, ◌∙◌, ap}
 use Rattle.answer.specs.declared.Answer.{Answer}
 use Rattle.answer.specs.declared.Cause.{Cause}
@@ -43,8 +43,31 @@ refusal_refuses r e d = refusal_tells r (ap number_of e ∙ d)
 
 -- The cause that has a number; past the list it is the last.
 cause_of : ℕ → Cause
-cause_of k = elim (k == 1) [ true ↦ NotWholeRows | false ↦ elim (k == 2) [ true ↦ TooMany | false ↦ elim (k == 3) [ true ↦ TableTooShort | false ↦ elim (k == 4) [ true ↦ SpaceTooLarge | false ↦ elim (k == 5) [ true ↦ BadRow | false ↦ elim (k == 6) [ true ↦ FixedRowsCollide | false ↦ elim (k == 7) [ true ↦ NeedExceedsSpace | false ↦ elim (k == 8) [ true ↦ FixedRowMoved | false ↦ elim (k == 9) [ true ↦ BadOffset | false ↦ elim (k == 10) [ true ↦ RowsCollide | false ↦ elim (k == 11) [ true ↦ BadAccess | false ↦ elim (k == 12) [ true ↦ ArenaTooShort | false ↦ elim (k == 13) [ true ↦ SectionsNotValid | false ↦ elim (k == 14) [ true ↦ BadAlignment | false ↦ elim (k == 15) [ true ↦ NoRoom | false ↦ elim (k == 16) [ true ↦ TemporariesOut | false ↦ elim (k == 17) [ true ↦ HeadMadeSmaller | false ↦ elim (k == 18) [ true ↦ WrongLength | false ↦ elim (k == 19) [ true ↦ OtherTensorCount | false ↦ elim (k == 20) [ true ↦ TensorNeverNamed | false ↦ elim (k == 21) [ true ↦ ReadBeforeWritten | false ↦ elim (k == 24) [ true ↦ BadTypeCode | false ↦ BadAllocationKind ] ] ] ] ] ] ] ] ] ] ] ] ] ] ] ] ] ] ] ] ] ]
+cause_of k =
+    cond (k == 1) NotWholeRows (
+    cond (k == 2) TooMany (
+    cond (k == 3) TableTooShort (
+    cond (k == 4) SpaceTooLarge (
+    cond (k == 5) BadRow (
+    cond (k == 6) FixedRowsCollide (
+    cond (k == 7) NeedExceedsSpace (
+    cond (k == 8) FixedRowMoved (
+    cond (k == 9) BadOffset (
+    cond (k == 10) RowsCollide (
+    cond (k == 11) BadAccess (
+    cond (k == 12) ArenaTooShort (
+    cond (k == 13) SectionsNotValid (
+    cond (k == 14) BadAlignment (
+    cond (k == 15) NoRoom (
+    cond (k == 16) TemporariesOut (
+    cond (k == 17) HeadMadeSmaller (
+    cond (k == 18) WrongLength (
+    cond (k == 19) OtherTensorCount (
+    cond (k == 20) TensorNeverNamed (
+    cond (k == 21) ReadBeforeWritten (
+    cond (k == 24) BadTypeCode BadAllocationKind)))))))))))))))))))))
 
+-- A cause's number leads back to the cause.
 cause_back : (cause : Cause) → cause_of (number_of_cause cause) ≡ cause
 unfolding cause_of
 cause_back NotWholeRows = refl

@@ -212,7 +212,9 @@ impl Answer {
     }
 }
 
-// The numbers of the document's list, by which alone a caller may know a refusal.
+// The numbers of the document's list, by which alone a caller may know an answer.
+const _: () = prove!(Answer::DONE == 0);
+
 const _: () = prove!(Answer::NOT_WHOLE_ROWS == 1);
 
 const _: () = prove!(Answer::TOO_MANY == 2);
